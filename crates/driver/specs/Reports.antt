@@ -1,0 +1,37 @@
+-- What the program says of an input.
+use mathlib.Core.Path.{_≡_}
+use mathlib.Core.List.{List, [], _∷_}
+use Prim.Native.Nat.{ℕ, _+_, _≤_, _<_}
+use lib.ListN.{length}
+use Rattle.std.specs.declared.result.Result.{Result}
+use Rattle.std.specs.declared.result.Result.the-variants.{Ok, Err}
+use Rattle.syntax.specs.declared.frame.Frame.{Frame}
+use Rattle.frames.specs.declared.fault.Fault.{Fault}
+use Rattle.frames.specs.Codec.{Reads}
+use Rattle.driver.specs.declared.outcome.Outcome.{Outcome}
+use Rattle.driver.specs.declared.outcome.Outcome.the-variants.{TooLong, Refused, Accepted}
+use Rattle.driver.specs.Pieces.{pieces}
+
+-- what reading a piece into 257 frames answers, whatever they held
+pub record Taken (piece : List ℕ) (r : Result ℕ Fault) : Type 0 where
+  pub area : List Frame
+  pub after : List Frame
+  pub room : length area ≡ 257
+  pub reads : Reads piece area after r
+
+-- the count, if any, is at most 257
+abbrev pub Few : Result ℕ Fault → Type 0
+Few (Ok n) = n ≤ 257
+Few (Err e) = Unit {0}
+
+-- what is said of the pieces from number k on, where n frames stood in those before: the first refused one ends it
+pub data Reports : ℕ → ℕ → List (List ℕ) → Outcome → Type 0 where
+  all : (k n : ℕ) → Reports k n [] (Accepted k n)
+  stops : (k n : ℕ) (piece : List ℕ) (ps : List (List ℕ)) (e : Fault) → Taken piece (Err e) → Reports k n (piece ∷ ps) (Refused k e)
+  goes-on : (k n m : ℕ) (piece : List ℕ) (ps : List (List ℕ)) (o : Outcome) → Taken piece (Ok m) → Reports (k + 1) (n + m) ps o → Reports k n (piece ∷ ps) o
+
+-- what is said of an input: of one over 65,536 bytes only that it is too long
+abbrev pub Says : List ℕ → Outcome → Type 0
+Says input TooLong = 65536 < length input
+Says input (Refused k e) = (length input ≤ 65536) × Reports 0 0 (pieces input) (Refused k e)
+Says input (Accepted k n) = (length input ≤ 65536) × Reports 0 0 (pieces input) (Accepted k n)

@@ -1,0 +1,6 @@
+pub mod Faults
+pub mod Text
+pub mod Codec
+pub mod States
+pub mod Sheets
+pub mod Examples

@@ -1,0 +1,85 @@
+// How a sheet goes through form.
+ghost use mathlib.Core.Path.{_≡_};
+ghost use mathlib.Core.List.{[], _∷_, _++_};
+ghost use Prim.Native.Nat.{_-_, _≤_};
+ghost use lib.ListN.{length, replicate};
+ghost use Rattle.syntax.specs.Writing.{frame, blank};
+ghost use Rattle.syntax.specs.Form.{forms};
+ghost use Rattle.frames.specs.States.{Judged};
+ghost use Rattle.frames.specs.Sheets.{Filled, Leaves, Exactly};
+use super::Formed;
+use crate::fault::Fault;
+use crate::machine::Machine;
+use syntax::Frame;
+
+// So many frames may a sheet have.
+const LONGEST: usize = 256;
+
+const BLANK: Frame = Frame {
+    kind: 0,
+    t: 0,
+    name: 0,
+    load: 0,
+};
+
+impl Formed {
+    // At first HEAD of void 0, and END.
+    pub fn new() -> Self
+        ensures { λ r. ⌜ Filled (frame 0x01 5 0 0 ∷ (frame 0x03 0 0 0 ∷ [])) r ⌝ }
+    {
+        let mut frames = [BLANK; 256];
+        frames[0] = Frame {
+            kind: 0x01,
+            t: 5,
+            name: 0,
+            load: 0,
+        };
+        frames[1] = Frame {
+            kind: 0x03,
+            t: 0,
+            name: 0,
+            load: 0,
+        };
+        Formed { frames, count: 2 }
+    }
+}
+
+// Takes the frames through the machine.
+fn tried(frames: &[Frame]) -> Result<(), Fault>
+    ensures { λ r. ⌜ Judged (forms (now (frames .entry))) r ⌝ }
+{
+    if frames.len() > LONGEST {
+        return Err(Fault::TooLong);
+    }
+    let mut m = Machine::new();
+    for (i, f) in frames.iter().enumerate() {
+        m.take_frame(*f, i)?;
+    }
+    m.ended_at(frames.len())
+}
+
+// The frames, and blank ones after them.
+fn filled(frames: &[Frame]) -> [Frame; 256]
+    requires { ⌜ length (now frames) ≤ 256 ⌝ }
+    ensures { λ r. ⌜ r ≡ now (frames .entry) ++ replicate (256 - length (now (frames .entry))) blank ⌝ }
+{
+    let mut sheet = [BLANK; 256];
+    let n = frames.len();
+    sheet[0..n].copy_from_slice(frames);
+    sheet
+}
+
+// Fills the sheet with frames that have the form of one; a refusal leaves it as it was.
+pub fn form(frames: &[Frame], into: &mut Formed) -> Result<(), Fault>
+    ensures judged { λ r. ⌜ Judged (forms (now (frames .entry))) r ⌝ }
+    ensures leaves { λ r. ⌜ Leaves (now (frames .entry)) (now (into .entry)) (now (into .exit)) r ⌝ }
+    ensures exactly { λ r. ⌜ Exactly (now (frames .entry)) r ⌝ }
+{
+    tried(frames)?;
+    let sheet = filled(frames);
+    *into = Formed {
+        frames: sheet,
+        count: frames.len(),
+    };
+    Ok(())
+}

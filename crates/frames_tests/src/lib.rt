@@ -1,0 +1,3 @@
+// Tests of the frames crate.
+#[cfg(test)]
+mod text_tests;

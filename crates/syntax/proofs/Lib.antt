@@ -1,0 +1,10 @@
+pub mod Rows
+pub mod Tokens
+pub mod Builder
+pub mod Flattened
+pub mod Rebuilt
+pub mod Forgotten
+pub mod LimitsMet
+pub mod Exact
+pub mod Turns
+pub mod Runs

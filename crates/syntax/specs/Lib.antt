@@ -1,0 +1,5 @@
+pub mod Trees
+pub mod Writing
+pub mod Kinds
+pub mod Form
+pub mod Limits
