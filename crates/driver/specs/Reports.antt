@@ -2,22 +2,30 @@
 use mathlib.Core.Path.{_≡_}
 use mathlib.Core.List.{List, [], _∷_}
 use Prim.Native.Nat.{ℕ, _+_, _≤_, _<_}
-use lib.ListN.{length}
+use mathlib.Core.Logic.{_⊎_}
+use lib.ListN.{length, take}
 use Rattle.std.specs.declared.result.Result.{Result}
 use Rattle.std.specs.declared.result.Result.the-variants.{Ok, Err}
 use Rattle.syntax.specs.declared.frame.Frame.{Frame}
 use Rattle.frames.specs.declared.fault.Fault.{Fault}
+use Rattle.syntax.specs.Form.{accepted, forms}
 use Rattle.frames.specs.Codec.{Reads}
+use Rattle.frames.specs.States.{Refuses}
 use Rattle.driver.specs.declared.outcome.Outcome.{Outcome}
 use Rattle.driver.specs.declared.outcome.Outcome.the-variants.{TooLong, Refused, Accepted}
 use Rattle.driver.specs.Pieces.{pieces}
 
--- what reading a piece into 257 frames answers, whatever they held
+-- what reading a piece into an area, and then forming the frames read, answers
+abbrev pub Formed-as : List ℕ → List Frame → List Frame → Result ℕ Fault → Type 0
+Formed-as piece area after (Ok n) = Reads piece area after (Ok n) × (forms (take n after) ≡ accepted)
+Formed-as piece area after (Err e) = Reads piece area after (Err e) ⊎ ((n : ℕ) × (Reads piece area after (Ok n) × Refuses (forms (take n after)) e))
+
+-- what comes of a piece, read into 257 frames, whatever they held, and formed
 pub record Taken (piece : List ℕ) (r : Result ℕ Fault) : Type 0 where
   pub area : List Frame
   pub after : List Frame
   pub room : length area ≡ 257
-  pub reads : Reads piece area after r
+  pub formed : Formed-as piece area after r
 
 -- the count, if any, is at most 257
 abbrev pub Few : Result ℕ Fault → Type 0

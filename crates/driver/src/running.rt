@@ -3,7 +3,9 @@ ghost use Rattle.driver.specs.Reports.{Taken, Few, Says};
 use crate::outcome::Outcome;
 use crate::pieces::cut;
 use frames::Fault;
+use frames::Formed;
 use frames::Frame;
+use frames::form;
 use frames::read;
 
 // So many bytes may an input have.
@@ -19,13 +21,16 @@ const BLANK: Frame = Frame {
     load: 0,
 };
 
-// Reads a piece into frames of its own, and answers their count.
+// Reads a piece into frames of its own and forms them, and answers their count.
 fn take_piece(piece: &[u8]) -> Result<usize, Fault>
     ensures result { λ r. ⌜ Taken (now (piece .entry)) r ⌝ }
     ensures bound { λ r. ⌜ Few r ⌝ }
 {
     let mut area = [BLANK; AREA];
-    read(piece, &mut area)
+    let mut formed = Formed::new();
+    let n = read(piece, &mut area)?;
+    form(&area[0..n], &mut formed)?;
+    Ok(n)
 }
 
 // Takes the input piece by piece, up to the first that is refused.

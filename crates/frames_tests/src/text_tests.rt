@@ -72,7 +72,12 @@ fn texts_that_are_refused() -> Result<(), Fail> {
 fn frames_read_before_a_fault_stay() -> Result<(), Fail> {
     let mut area = [BLANK; 3];
     check(read(b"0123456789ABCDEF\nzz", &mut area).is_err())?;
-    check(area[0].kind == 0x01 && area[0].t == 0x23 && area[0].name == 0x4567 && area[0].load == 0x89ABCDEF)?;
+    check(
+        area[0].kind == 0x01
+            && area[0].t == 0x23
+            && area[0].name == 0x4567
+            && area[0].load == 0x89ABCDEF,
+    )?;
     check(area[1].kind == 0 && area[2].kind == 0)
 }
 
