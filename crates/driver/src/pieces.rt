@@ -60,5 +60,6 @@ pub fn cut(input: &[u8]) -> Option<(&[u8], &[u8])>
     if input.is_empty() {
         return None;
     }
-    Some(input.split_at(piece_length(input)))
+    let (piece, rest) = input.split_at(piece_length(input));
+    Some((piece, rest))
 }

@@ -3,6 +3,6 @@ pub mod Lines
 pub mod TextTurns
 pub mod TextLaw
 pub mod Stack
-pub mod Filled
-pub mod Laws
+pub mod Padded
 pub mod Readings
+pub mod Verdicts

@@ -3,4 +3,3 @@ pub mod Text
 pub mod Codec
 pub mod States
 pub mod Sheets
-pub mod Examples

@@ -1,36 +1,26 @@
--- What `form` answers and leaves, and what a formed sheet tells.
+-- What `form` answers and leaves, and what a formed sheet holds.
 use mathlib.Core.Path.{_≡_}
-use mathlib.Core.Bool.{cond}
-use mathlib.Core.List.{List, [], _∷_, _++_}
-use Prim.Native.Nat.{ℕ, _+_, _-_}
-use lib.Dec.{ltb}
-use lib.ListN.{length, getD, take, replicate}
-use Rattle.std.specs.declared.option.Option.{Option}
-use Rattle.std.specs.declared.option.Option.the-variants.{Some, None}
+use mathlib.Core.List.{List, _++_}
+use Prim.Native.Nat.{_-_}
+use lib.ListN.{length, take, replicate}
 use Rattle.std.specs.declared.result.Result.{Result}
 use Rattle.std.specs.declared.result.Result.the-variants.{Ok, Err}
 use Rattle.syntax.specs.declared.frame.Frame.{Frame}
-use Rattle.syntax.specs.declared.frame.Parameter.{Parameter}
+use Rattle.syntax.specs.Writing.{blank}
+use Rattle.syntax.specs.Law.{HasTree, HasNoTree, Stops}
 use Rattle.frames.specs.declared.formed.Formed.{Formed}
 use Rattle.frames.specs.declared.fault.Fault.{Fault}
-use Rattle.syntax.specs.Trees.{Definition}
-use Rattle.syntax.specs.Writing.{written, blank, param-of}
-use Rattle.syntax.specs.Limits.{Within}
+use Rattle.frames.specs.Faults.{number, place}
 
--- the frames of a formed sheet, and with blank frames after them up to 256
+-- the frames of a formed sheet
 abbrev pub frames-of : Formed → List Frame
 frames-of s = take (s .count) (s .frames)
 
+-- the frames of a formed sheet, and blank ones after them up to 256
 abbrev pub sheet-of : Formed → List Frame
 sheet-of s = frames-of s ++ replicate (256 - length (frames-of s)) blank
 
-abbrev pub head-of : Formed → Frame
-head-of s = getD (frames-of s) 0 blank
-
-abbrev pub param-at : Formed → ℕ → Option Parameter
-param-at s i = cond (ltb i (head-of s .load)) (Some (param-of (getD (frames-of s) (i + 1) blank))) None
-
--- what is filled in: the frames, and blank ones after them
+-- the sheet holds these frames, and blank ones after them
 pub record Filled (fs : List Frame) (after : Formed) : Type 0 where
   pub shows : frames-of after ≡ fs
   pub count : after .count ≡ length fs
@@ -41,20 +31,8 @@ abbrev pub Leaves : {A : Type 0} → List Frame → Formed → Formed → Result
 Leaves fs before after (Ok u) = Filled fs after
 Leaves fs before after (Err e) = after ≡ before
 
--- the frames are the writing of a tree within the limits, and of no other tree
-pub record TreeOf (fs : List Frame) (d : Definition) : Type 0 where
-  pub within : Within d
-  pub writes : written d ≡ fs
-  pub only : (e : Definition) → written e ≡ fs → e ≡ d
-
-abbrev pub HasTree : List Frame → Type 0
-HasTree fs = (d : Definition) × TreeOf fs d
-
--- x is what g is of the tree of the sheet
-abbrev pub OfTree : {A : Type 0} → Formed → (Definition → A) → A → Type 0
-OfTree s g x = (d : Definition) → written d ≡ frames-of s → x ≡ g d
-
--- the law of the form: accepted are exactly the writings of trees within the limits
-abbrev pub Exactly : {A : Type 0} → List Frame → Result A Fault → Type 0
-Exactly fs (Ok u) = HasTree fs
-Exactly fs (Err e) = (d : Definition) → Within d → written d ≡ fs → ⊥
+-- accepted are exactly the writings of trees within the limits, each of one tree only; the place of a refusal is
+-- where the writing of a tree can go on no more
+abbrev pub Lawful : {A : Type 0} → List Frame → Result A Fault → Type 0
+Lawful fs (Ok u) = HasTree fs
+Lawful fs (Err e) = HasNoTree fs × Stops fs (number e) (place e)

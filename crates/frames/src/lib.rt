@@ -1,10 +1,10 @@
 // Frames, their text, and the form of a sheet.
-pub mod examples;
 pub mod fault;
 pub mod formed;
 mod kinds;
 mod machine;
 pub mod text;
+pub mod types;
 
 pub use fault::Diagnostic;
 pub use fault::Fault;
@@ -15,3 +15,5 @@ pub use syntax::Parameter;
 pub use syntax::Type;
 pub use text::read;
 pub use text::write;
+pub use types::type_code;
+pub use types::type_of;

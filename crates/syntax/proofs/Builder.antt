@@ -1,17 +1,14 @@
 -- A machine that builds the tree of a sheet from its tokens: what the form's machine counts, it keeps.
-use mathlib.Core.Path.{_≡_, refl, sym, _∙_, ap, ap₂, subst}
-use mathlib.Core.Bool.{Bool, true, false, cond, _&&_}
+use mathlib.Core.Bool.{Bool, true, false}
 use mathlib.Core.Option.{Option, none as nothing, some}
-use mathlib.Core.List.{List, [], _∷_, _++_, reverseAux}
-use Prim.Native.Nat.{ℕ, zero, suc, _+_}
-use native.Mathlib.Nat.{add-zero, zero-add, suc-add, add-suc}
-use native.Mathlib.Omega.{arith}
+use mathlib.Core.List.{List, [], _∷_, reverseAux}
+use Prim.Native.Nat.{ℕ, zero, suc}
 use lib.Dec.{ltb}
 use lib.ListN.{length}
 use Rattle.syntax.specs.declared.frame.«Type».{«Type» as Ty}
 use Rattle.syntax.specs.declared.frame.Parameter.{Parameter}
-use Rattle.syntax.specs.Trees.{Literal, Operator, Update, Expr, literal, variable, update, call, binary, assign, Exprs, none, more, Stmt, perform, declare, init, return-nothing, return-value, block, while, choose, Stmts, empty, then, Definition}
-use Rattle.syntax.specs.Writing.{Token, HEAD, PARAM, END, DO, DECL, NAME, INIT, RETV, RET, OPEN, CLOSE, WHILE, IF, LITERAL, VARIABLE, CALL, UPDATE, BINARY, ASSIGN, count, write-expr, write-exprs, write-names, write-stmt, write-stmts, write-params, write-definition}
+use Rattle.syntax.specs.Trees.{Expr, literal, variable, update, call, binary, assign, Exprs, none, more, Stmt, perform, declare, init, return-nothing, return-value, block, while, choose, Stmts, empty, then, Definition}
+use Rattle.syntax.specs.Writing.{Token, HEAD, PARAM, END, DO, DECL, NAME, INIT, RETV, RET, OPEN, CLOSE, WHILE, IF, LITERAL, VARIABLE, CALL, UPDATE, BINARY, ASSIGN}
 
 abbrev pub when : {A : Type 0} → Bool → Option A → Option A
 when true o = o

@@ -1,8 +1,7 @@
 -- The form of a sheet, as a machine that takes its frames in order.
-use mathlib.Core.Path.{_≡_}
 use mathlib.Core.Bool.{Bool, true, false, cond}
 use mathlib.Core.List.{List, [], _∷_}
-use Prim.Native.Nat.{ℕ, zero, suc, _+_, _-_}
+use Prim.Native.Nat.{ℕ, _+_, _-_}
 use lib.Dec.{eqb, ltb, leb}
 use lib.ListN.{length}
 use Rattle.std.specs.declared.option.Option.{Option}
@@ -28,10 +27,11 @@ pub record State : Type 0 where
   pub stack : List Unfinished
   pub ready : ℕ
 
+-- the state of these three
 abbrev pub at : Stage → List Unfinished → ℕ → State
 at g u r = record { stage = g; stack = u; ready = r }
 
--- where the machine stands: at the start, where n parameters or n names are to come, in the body; elsewhere 23
+-- only at the start, elsewhere 23
 abbrev pub starting : ℕ → Stage → Answer State → Answer State
 starting p Start a = a
 starting p (Params n) a = refused 23 p
@@ -39,6 +39,7 @@ starting p (Names n) a = refused 23 p
 starting p Body a = refused 23 p
 starting p Ended a = refused 23 p
 
+-- only where n parameters are to come, elsewhere 23
 abbrev pub at-params : ℕ → Stage → (ℕ → Answer State) → Answer State
 at-params p Start f = refused 23 p
 at-params p (Params n) f = f n
@@ -46,6 +47,7 @@ at-params p (Names n) f = refused 23 p
 at-params p Body f = refused 23 p
 at-params p Ended f = refused 23 p
 
+-- only where n names are to come, elsewhere 23
 abbrev pub at-names : ℕ → Stage → (ℕ → Answer State) → Answer State
 at-names p Start f = refused 23 p
 at-names p (Params n) f = refused 23 p
@@ -53,6 +55,7 @@ at-names p (Names n) f = f n
 at-names p Body f = refused 23 p
 at-names p Ended f = refused 23 p
 
+-- only in the body, elsewhere 23
 abbrev pub in-body : ℕ → Stage → Answer State → Answer State
 in-body p Start a = refused 23 p
 in-body p (Params n) a = refused 23 p
@@ -60,7 +63,7 @@ in-body p (Names n) a = refused 23 p
 in-body p Body a = a
 in-body p Ended a = refused 23 p
 
--- so many parameters are to come, so many names
+-- n parameters are to come: with none the body begins
 abbrev pub await-params : ℕ → List Unfinished → ℕ → State
 await-params n u r = cond (eqb n 0) (at Body u r) (at (Params n) u r)
 
@@ -71,6 +74,7 @@ finish (Block ∷ u) = Block ∷ u
 finish (Loop ∷ u) = finish u
 finish (Choice n ∷ u) = cond (ltb 1 n) (Choice (n - 1) ∷ u) (finish u)
 
+-- n names are to come: with none the declaration is finished
 abbrev pub await-names : ℕ → List Unfinished → ℕ → State
 await-names n u r = cond (eqb n 0) (at Body (finish u) r) (at (Names n) u r)
 
@@ -113,6 +117,7 @@ allow p Open load g u r = in-body p g (exactly p 0 r (begin p Block u))
 allow p Close load g u r = in-body p g (exactly p 0 r (close p u))
 allow p End load g u r = in-body p g (exactly p 0 r (end p u))
 
+-- END was read
 abbrev pub has-ended : Stage → Bool
 has-ended Start = false
 has-ended (Params n) = false
@@ -133,9 +138,11 @@ known p s f (Some r) = judge p s f r
 unfoldable pub step : ℕ → State → Frame → Answer State
 step p s f = cond (has-ended (s .stage)) (refused 26 p) (known p s f (row (f .kind)))
 
+-- what is said of a list of frames
 abbrev pub Verdict : Type 0
 Verdict = Answer (Unit {0})
 
+-- the frames form a sheet
 abbrev pub accepted : Verdict
 accepted = fine tt
 
@@ -143,10 +150,12 @@ accepted = fine tt
 abbrev pub ending : ℕ → Stage → Verdict
 ending p g = cond (has-ended g) accepted (refused 25 p)
 
+-- the frames from place p on, from the state s
 abbrev pub run : ℕ → State → List Frame → Verdict
 run p s [] = ending p (s .stage)
 run p s (f ∷ fs) = elim (step p s f) [ fine s′ ↦ run (p + 1) s′ fs | refused n q ↦ refused n q ]
 
+-- before the first frame
 abbrev pub start : State
 start = at Start [] 0
 
@@ -154,6 +163,7 @@ start = at Start [] 0
 abbrev pub forms : List Frame → Verdict
 forms fs = cond (ltb 256 (length fs)) (refused 20 256) (run 0 start fs)
 
+-- the verdict is no refusal
 abbrev pub is-fine : Verdict → Bool
 is-fine (fine u) = true
 is-fine (refused n p) = false

@@ -10,6 +10,7 @@ use Rattle.syntax.specs.declared.kinds.Role.the-variants.{Head, Param, End, Op
 use Rattle.syntax.specs.declared.kinds.Span.{Span}
 use Rattle.syntax.specs.declared.kinds.Row.{Row}
 
+-- the numbers from a to b
 abbrev pub span : ℕ → ℕ → Span
 span a b = record { low = a; high = b }
 
@@ -17,24 +18,31 @@ span a b = record { low = a; high = b }
 abbrev pub lacking : Span
 lacking = span 0 0
 
+-- a name of 16 bits
 abbrev pub any-name : Span
 any-name = span 0 65535
 
+-- a load of 32 bits
 abbrev pub any-load : Span
 any-load = span 0 4294967295
 
+-- a kind with these ranges of t, name and load
 abbrev pub fields : Span → Span → Span → Role → Option Row
 fields t n l r = Some (record { t = t; name = n; load = l; role = r })
 
+-- a kind without fields
 abbrev pub plain : Role → Option Row
 plain r = fields lacking lacking lacking r
 
+-- a kind with a name alone
 abbrev pub named : Role → Option Row
 named r = fields lacking any-name lacking r
 
+-- k is from a to b
 abbrev pub from : ℕ → ℕ → ℕ → Bool
 from k a b = leb a k && leb k b
 
+-- the row of each kind; any other number is no kind
 abbrev pub row : ℕ → Option Row
 row k =
     cond (eqb k 0x01) (fields (span 1 5) any-name (span 0 16) Head)
@@ -59,8 +67,10 @@ row k =
     (cond (eqb k 0x3C) (named (Operand 1))
     None)))))))))))))))))))
 
+-- the number is one of the span
 abbrev pub within : Span → ℕ → Bool
 within s n = leb (s .low) n && leb n (s .high)
 
+-- each field of the frame is within its range
 abbrev pub fields-fit : Row → Frame → Bool
 fields-fit r f = within (r .t) (f .t) && (within (r .name) (f .name) && within (r .load) (f .load))

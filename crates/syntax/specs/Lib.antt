@@ -1,5 +1,9 @@
 pub mod Trees
 pub mod Writing
+pub mod Types
+pub mod Limits
 pub mod Kinds
 pub mod Form
-pub mod Limits
+pub mod Law
+pub mod Heads
+pub mod Examples

@@ -1,5 +1,4 @@
 -- The limits of a sheet, on its tree.
-use mathlib.Core.Path.{_≡_}
 use mathlib.Core.List.{List, [], _∷_}
 use Prim.Native.Nat.{ℕ, suc, _≤_, _<_, max}
 use lib.ListN.{length}
@@ -9,10 +8,11 @@ use Rattle.syntax.specs.declared.frame.Parameter.{Parameter}
 use Rattle.syntax.specs.Trees.{Literal, true-literal, false-literal, int-literal, double-literal, string-literal, Expr, literal, variable, update, call, binary, assign, Exprs, none, more, Stmt, perform, declare, init, return-nothing, return-value, block, while, choose, Stmts, empty, then, Definition}
 use Rattle.syntax.specs.Writing.{count, written}
 
--- a name has 16 bits, the load of a literal 32
+-- a name has 16 bits
 abbrev pub IsName : ℕ → Type 0
 IsName x = x < 65536
 
+-- the load of a literal has 32 bits
 abbrev pub IsLoad : ℕ → Type 0
 IsLoad n = n < 4294967296
 
@@ -24,6 +24,7 @@ IsValue Double = Unit {0}
 IsValue String = Unit {0}
 IsValue Void = ⊥
 
+-- a literal has a load of 32 bits, if any
 abbrev pub LiteralFits : Literal → Type 0
 LiteralFits true-literal = Unit {0}
 LiteralFits false-literal = Unit {0}
@@ -31,7 +32,7 @@ LiteralFits (int-literal n) = IsLoad n
 LiteralFits (double-literal n) = IsLoad n
 LiteralFits (string-literal n) = IsLoad n
 
--- a call has at most 16 arguments
+-- the names and loads in it fit, and each call has at most 16 arguments
 abbrev mutual
   pub ExprFits : Expr → Type 0
   ExprFits (literal l) = LiteralFits l
@@ -45,11 +46,12 @@ abbrev mutual
   ExprsFit none = Unit {0}
   ExprsFit (more e es) = ExprFits e × ExprsFit es
 
+-- each name fits
 abbrev pub NamesFit : List ℕ → Type 0
 NamesFit [] = Unit {0}
 NamesFit (x ∷ xs) = IsName x × NamesFit xs
 
--- a declaration has 1 to 16 names
+-- its expressions fit, what it declares has the type of a value, and each declaration has 1 to 16 names
 abbrev mutual
   pub StmtFits : Stmt → Type 0
   StmtFits (perform e) = ExprFits e
@@ -65,6 +67,7 @@ abbrev mutual
   StmtsFit empty = Unit {0}
   StmtsFit (then s ss) = StmtFits s × StmtsFit ss
 
+-- each parameter has the type of a value and a name that fits
 abbrev pub ParamsFit : List Parameter → Type 0
 ParamsFit [] = Unit {0}
 ParamsFit (p ∷ ps) = IsValue (p .t) × IsName (p .name) × ParamsFit ps
@@ -85,6 +88,7 @@ abbrev mutual
   depths empty = 0
   depths (then s ss) = max (depth s) (depths ss)
 
+-- the tree is within the limits
 pub record Within (d : Definition) : Type 0 where
   pub named : IsName (d .name)
   pub params : length (d .params) ≤ 16

@@ -4,10 +4,12 @@ use Prim.Native.Nat.{ℕ}
 use Rattle.syntax.specs.declared.frame.«Type».{«Type» as Ty}
 use Rattle.syntax.specs.declared.frame.Parameter.{Parameter}
 
+-- true, false, and the literals whose value is a number that stands for it
 pub data Literal : Type 0 where
   true-literal false-literal : Literal
   int-literal double-literal string-literal : ℕ → Literal
 
+-- the operators between two expressions
 pub data Operator : Type 0 where
   plus minus times divide : Operator
   less less-equal equal not-equal greater-equal greater : Operator
@@ -17,6 +19,7 @@ pub data Operator : Type 0 where
 pub data Update : Type 0 where
   post-increment post-decrement pre-increment pre-decrement : Update
 
+-- expressions, and the arguments of a call
 mutual
   pub data Expr : Type 0 where
     literal : Literal → Expr
@@ -30,6 +33,7 @@ mutual
     none : Exprs
     more : Expr → Exprs → Exprs
 
+-- the eight statements, and sequences of them
 mutual
   pub data Stmt : Type 0 where
     perform : Expr → Stmt
@@ -45,6 +49,7 @@ mutual
     empty : Stmts
     then : Stmt → Stmts → Stmts
 
+-- a function: what it returns, its name, its parameters and its body
 pub record Definition : Type 0 where
   pub returns : Ty
   pub name : ℕ

@@ -1,8 +1,6 @@
 -- The linear writing of a tree: the tokens in order, and the frame of each token.
 use mathlib.Core.List.{List, [], _∷_, map}
-use mathlib.Core.Bool.{cond}
-use Prim.Native.Nat.{ℕ, zero, suc}
-use lib.Dec.{eqb}
+use Prim.Native.Nat.{ℕ, suc}
 use lib.ListN.{length}
 use Rattle.syntax.specs.declared.frame.Frame.{Frame}
 use Rattle.syntax.specs.declared.frame.«Type».{«Type» as Ty}
@@ -10,6 +8,7 @@ use Rattle.syntax.specs.declared.frame.«Type».the-variants.{Bool, Int, Doubl
 use Rattle.syntax.specs.declared.frame.Parameter.{Parameter}
 use Rattle.syntax.specs.Trees.{Literal, true-literal, false-literal, int-literal, double-literal, string-literal, Operator, plus, minus, times, divide, less, less-equal, equal, not-equal, greater-equal, greater, logical-and, logical-or, Update, post-increment, post-decrement, pre-increment, pre-decrement, Expr, literal, variable, update, call, binary, assign, Exprs, none, more, Stmt, perform, declare, init, return-nothing, return-value, block, while, choose, Stmts, empty, then, Definition}
 
+-- the words that a tree is written in
 pub data Token : Type 0 where
   HEAD : Ty → ℕ → ℕ → Token
   PARAM : Ty → ℕ → Token
@@ -26,11 +25,12 @@ pub data Token : Type 0 where
   BINARY : Operator → Token
   ASSIGN : ℕ → Token
 
+-- how many arguments
 abbrev pub count : Exprs → ℕ
 count none = 0
 count (more e es) = suc (count es)
 
--- each writes its tree and then r: a part stands before what it is part of, the left part first
+-- an expression and then r: a part stands before what it is part of, the left part first
 abbrev mutual
   pub write-expr : Expr → List Token → List Token
   write-expr (literal l) r = LITERAL l ∷ r
@@ -44,10 +44,12 @@ abbrev mutual
   write-exprs none r = r
   write-exprs (more e es) r = write-expr e (write-exprs es r)
 
+-- the names of a declaration and then r
 abbrev pub write-names : List ℕ → List Token → List Token
 write-names [] r = r
 write-names (x ∷ xs) r = NAME x ∷ write-names xs r
 
+-- a statement and then r: its expression first, and the statements that it holds after it
 abbrev mutual
   pub write-stmt : Stmt → List Token → List Token
   write-stmt (perform e) r = write-expr e (DO ∷ r)
@@ -63,14 +65,16 @@ abbrev mutual
   write-stmts empty r = r
   write-stmts (then s ss) r = write-stmt s (write-stmts ss r)
 
+-- the parameters and then r
 abbrev pub write-params : List Parameter → List Token → List Token
 write-params [] r = r
 write-params (p ∷ ps) r = PARAM (p .t) (p .name) ∷ write-params ps r
 
+-- a definition and then r
 abbrev pub write-definition : Definition → List Token → List Token
 write-definition d r = HEAD (d .returns) (d .name) (length (d .params)) ∷ write-params (d .params) (write-stmts (d .body) (END ∷ r))
 
--- the frame of each token
+-- the number of each type
 abbrev pub type-code : Ty → ℕ
 type-code Bool = 1
 type-code Int = 2
@@ -78,9 +82,11 @@ type-code Double = 3
 type-code String = 4
 type-code Void = 5
 
+-- the frame of these four fields
 abbrev pub frame : ℕ → ℕ → ℕ → ℕ → Frame
 frame k t n l = record { kind = k; t = t; name = n; load = l }
 
+-- the frame of each literal
 abbrev pub literal-frame : Literal → Frame
 literal-frame true-literal = frame 0x20 0 0 0
 literal-frame false-literal = frame 0x21 0 0 0
@@ -88,12 +94,14 @@ literal-frame (int-literal n) = frame 0x22 0 0 n
 literal-frame (double-literal n) = frame 0x23 0 0 n
 literal-frame (string-literal n) = frame 0x24 0 0 n
 
+-- the kind of each update
 abbrev pub update-kind : Update → ℕ
 update-kind post-increment = 0x27
 update-kind post-decrement = 0x28
 update-kind pre-increment = 0x29
 update-kind pre-decrement = 0x2A
 
+-- the kind of each operator
 abbrev pub operator-kind : Operator → ℕ
 operator-kind plus = 0x30
 operator-kind minus = 0x31
@@ -108,6 +116,7 @@ operator-kind greater = 0x39
 operator-kind logical-and = 0x3A
 operator-kind logical-or = 0x3B
 
+-- the frame of each token
 abbrev pub frame-of : Token → Frame
 frame-of (HEAD t f n) = frame 0x01 (type-code t) f n
 frame-of (PARAM t x) = frame 0x02 (type-code t) x 0
@@ -133,12 +142,6 @@ frame-of (ASSIGN x) = frame 0x3C 0 x 0
 unfoldable pub written : Definition → List Frame
 written d = map frame-of (write-definition d [])
 
+-- the frame that fills a sheet after its last
 abbrev pub blank : Frame
 blank = frame 0 0 0 0
-
--- the type of a number, and the parameter that a PARAM frame stands for
-abbrev pub type-of : ℕ → Ty
-type-of n = cond (eqb n 1) Bool (cond (eqb n 2) Int (cond (eqb n 3) Double (cond (eqb n 4) String Void)))
-
-abbrev pub param-of : Frame → Parameter
-param-of f = record { t = type-of (f .t); name = f .name }

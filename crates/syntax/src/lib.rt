@@ -1,4 +1,5 @@
 // The syntax of CPP: frames, the table of kinds, trees and their linear writing, and the form of a sheet.
+pub mod examples;
 pub mod frame;
 pub mod kinds;
 pub mod stages;

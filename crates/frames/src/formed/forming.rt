@@ -3,10 +3,11 @@ ghost use mathlib.Core.Path.{_≡_};
 ghost use mathlib.Core.List.{[], _∷_, _++_};
 ghost use Prim.Native.Nat.{_-_, _≤_};
 ghost use lib.ListN.{length, replicate};
-ghost use Rattle.syntax.specs.Writing.{frame, blank};
-ghost use Rattle.syntax.specs.Form.{forms};
+ghost use Rattle.syntax.specs.Writing.{frame, blank, written};
+ghost use Rattle.syntax.specs.Heads.{nothing-done};
+ghost use Rattle.syntax.specs.Form.{accepted, forms};
 ghost use Rattle.frames.specs.States.{Judged};
-ghost use Rattle.frames.specs.Sheets.{Filled, Leaves, Exactly};
+ghost use Rattle.frames.specs.Sheets.{frames-of, Filled, Leaves, Lawful};
 use super::Formed;
 use crate::fault::Fault;
 use crate::machine::Machine;
@@ -25,7 +26,8 @@ const BLANK: Frame = Frame {
 impl Formed {
     // At first HEAD of void 0, and END.
     pub fn new() -> Self
-        ensures { λ r. ⌜ Filled (frame 0x01 5 0 0 ∷ (frame 0x03 0 0 0 ∷ [])) r ⌝ }
+        ensures result { λ r. ⌜ Filled (frame 0x01 5 0 0 ∷ (frame 0x03 0 0 0 ∷ [])) r ⌝ }
+        ensures tree { λ r. ⌜ written nothing-done ≡ frames-of r ⌝ }
     {
         let mut frames = [BLANK; 256];
         frames[0] = Frame {
@@ -45,8 +47,9 @@ impl Formed {
 }
 
 // Takes the frames through the machine.
-fn tried(frames: &[Frame]) -> Result<(), Fault>
-    ensures { λ r. ⌜ Judged (forms (now (frames .entry))) r ⌝ }
+fn judged(frames: &[Frame]) -> Result<(), Fault>
+    ensures result { λ r. ⌜ Judged (forms (now (frames .entry))) r ⌝ }
+    ensures law { λ r. ⌜ Lawful (now (frames .entry)) r ⌝ }
 {
     if frames.len() > LONGEST {
         return Err(Fault::TooLong);
@@ -59,7 +62,7 @@ fn tried(frames: &[Frame]) -> Result<(), Fault>
 }
 
 // The frames, and blank ones after them.
-fn filled(frames: &[Frame]) -> [Frame; 256]
+fn padded(frames: &[Frame]) -> [Frame; 256]
     requires { ⌜ length (now frames) ≤ 256 ⌝ }
     ensures { λ r. ⌜ r ≡ now (frames .entry) ++ replicate (256 - length (now (frames .entry))) blank ⌝ }
 {
@@ -69,17 +72,25 @@ fn filled(frames: &[Frame]) -> [Frame; 256]
     sheet
 }
 
-// Fills the sheet with frames that have the form of one; a refusal leaves it as it was.
-pub fn form(frames: &[Frame], into: &mut Formed) -> Result<(), Fault>
-    ensures judged { λ r. ⌜ Judged (forms (now (frames .entry))) r ⌝ }
-    ensures leaves { λ r. ⌜ Leaves (now (frames .entry)) (now (into .entry)) (now (into .exit)) r ⌝ }
-    ensures exactly { λ r. ⌜ Exactly (now (frames .entry)) r ⌝ }
+// Fills the sheet with frames that were accepted.
+fn fill(frames: &[Frame], into: &mut Formed)
+    requires { ⌜ forms (now frames) ≡ accepted ⌝ }
+    ensures { λ _. ⌜ Filled (now (frames .entry)) (now (into .exit)) ⌝ }
 {
-    tried(frames)?;
-    let sheet = filled(frames);
+    let sheet = padded(frames);
     *into = Formed {
         frames: sheet,
         count: frames.len(),
     };
+}
+
+// Fills the sheet with the frames if they have the form of one; a refusal leaves it as it was.
+pub fn form(frames: &[Frame], into: &mut Formed) -> Result<(), Fault>
+    ensures result { λ r. ⌜ Judged (forms (now (frames .entry))) r ⌝ }
+    ensures leaves { λ r. ⌜ Leaves (now (frames .entry)) (now (into .entry)) (now (into .exit)) r ⌝ }
+    ensures law { λ r. ⌜ Lawful (now (frames .entry)) r ⌝ }
+{
+    judged(frames)?;
+    fill(frames, into);
     Ok(())
 }

@@ -1,9 +1,10 @@
 // What the machine does with each frame.
 ghost use mathlib.Core.Path.{_≡_};
+ghost use mathlib.Core.Bool.{cond};
 ghost use Prim.Native.Nat.{_+_, _≤_};
 ghost use Rattle.syntax.specs.declared.stages.Stage.the-variants.{Body};
 ghost use Rattle.syntax.specs.Form.{at, start, await-names, finish, begin, close, end, allow, step, ending};
-ghost use Rattle.frames.specs.States.{state-of, Does, Judged};
+ghost use Rattle.frames.specs.States.{state-of, Does, Finishes, Judged};
 use super::Machine;
 use crate::fault::Fault;
 use crate::kinds::row_of;
@@ -17,7 +18,7 @@ use syntax::Unfinished;
 const DEEPEST: usize = 32;
 
 impl Machine {
-    pub fn new() -> Self
+    pub(crate) fn new() -> Self
         ensures { λ r. ⌜ state-of r ≡ start ⌝ }
     {
         Machine {
@@ -28,31 +29,48 @@ impl Machine {
         }
     }
 
-    // Finishes a statement, and what is finished with it.
+    // Finishes the innermost thing if a finished statement finishes it, and answers whether it did.
+    fn finish_innermost(&mut self) -> bool
+        ensures result { λ r. ⌜ Finishes r (now (self .entry)) (now (self .exit)) ⌝ }
+        ensures bound { λ r. ⌜ cond r 1 0 + now (self .exit) .depth ≤ now (self .entry) .depth ⌝ }
+    {
+        if self.depth == 0 {
+            return false;
+        }
+        let last = self.depth - 1;
+        let top = self.stack[last];
+        match top {
+            Unfinished::Block => false,
+            Unfinished::Loop => {
+                self.depth = last;
+                true
+            }
+            Unfinished::Choice(n) => {
+                if n > 1 {
+                    self.stack[last] = Unfinished::Choice(n - 1);
+                    return false;
+                }
+                self.depth = last;
+                true
+            }
+        }
+    }
+
+    // Finishes a statement, and what is finished with it upward.
     fn finish_statement(&mut self)
         ensures { λ _. ⌜ state-of (now (self .exit)) ≡ at (now (self .entry) .stage) (finish (state-of (now (self .entry)) .stack)) (now (self .entry) .ready) ⌝ }
     {
-        while self.depth > 0 {
-            let top = self.stack[self.depth - 1];
-            match top {
-                Unfinished::Block => return,
-                Unfinished::Loop => self.depth -= 1,
-                Unfinished::Choice(n) => {
-                    if n > 1 {
-                        self.stack[self.depth - 1] = Unfinished::Choice(n - 1);
-                        return;
-                    }
-                    self.depth -= 1;
-                }
-            }
+        let mut upward = true;
+        while upward {
+            upward = self.finish_innermost();
         }
     }
 
     // Begins a thing that is unfinished.
     fn begin_thing(&mut self, x: Unfinished, place: usize) -> Result<(), Fault>
         requires { ⌜ now self .stage ≡ Body ⌝ }
-        ensures does { λ r. ⌜ Does (begin place x (state-of (now (self .entry)) .stack)) (now (self .entry)) (now (self .exit)) r ⌝ }
-        ensures grows { λ _. ⌜ now (self .exit) .ready ≤ now (self .entry) .ready + 1 ⌝ }
+        ensures result { λ r. ⌜ Does (begin place x (state-of (now (self .entry)) .stack)) (now (self .entry)) (now (self .exit)) r ⌝ }
+        ensures bound { λ _. ⌜ now (self .exit) .ready ≤ now (self .entry) .ready + 1 ⌝ }
     {
         if self.depth >= DEEPEST {
             return Err(Fault::TooDeep(place));
@@ -66,8 +84,8 @@ impl Machine {
     // Closes the block that is innermost.
     fn close_block(&mut self, place: usize) -> Result<(), Fault>
         requires { ⌜ (now self .stage ≡ Body) × (now self .ready ≡ 0) ⌝ }
-        ensures does { λ r. ⌜ Does (close place (state-of (now (self .entry)) .stack)) (now (self .entry)) (now (self .exit)) r ⌝ }
-        ensures grows { λ _. ⌜ now (self .exit) .ready ≤ now (self .entry) .ready + 1 ⌝ }
+        ensures result { λ r. ⌜ Does (close place (state-of (now (self .entry)) .stack)) (now (self .entry)) (now (self .exit)) r ⌝ }
+        ensures bound { λ _. ⌜ now (self .exit) .ready ≤ now (self .entry) .ready + 1 ⌝ }
     {
         if self.depth == 0 {
             return Err(Fault::NotAllowed(place));
@@ -86,8 +104,8 @@ impl Machine {
     // Ends the sheet, where nothing is unfinished.
     fn end_sheet(&mut self, place: usize) -> Result<(), Fault>
         requires { ⌜ (now self .stage ≡ Body) × (now self .ready ≡ 0) ⌝ }
-        ensures does { λ r. ⌜ Does (end place (state-of (now (self .entry)) .stack)) (now (self .entry)) (now (self .exit)) r ⌝ }
-        ensures grows { λ _. ⌜ now (self .exit) .ready ≤ now (self .entry) .ready + 1 ⌝ }
+        ensures result { λ r. ⌜ Does (end place (state-of (now (self .entry)) .stack)) (now (self .entry)) (now (self .exit)) r ⌝ }
+        ensures bound { λ _. ⌜ now (self .exit) .ready ≤ now (self .entry) .ready + 1 ⌝ }
     {
         if self.depth > 0 {
             return Err(Fault::NotAllowed(place));
@@ -111,8 +129,8 @@ impl Machine {
     // What a frame of that role and load does where the machine stands.
     fn allow_role(&mut self, role: Role, load: u32, place: usize) -> Result<(), Fault>
         requires { ⌜ now self .ready ≤ 256 ⌝ }
-        ensures does { λ r. ⌜ Does (allow place role load (now (self .entry) .stage) (state-of (now (self .entry)) .stack) (now (self .entry) .ready)) (now (self .entry)) (now (self .exit)) r ⌝ }
-        ensures grows { λ _. ⌜ now (self .exit) .ready ≤ now (self .entry) .ready + 1 ⌝ }
+        ensures result { λ r. ⌜ Does (allow place role load (now (self .entry) .stage) (state-of (now (self .entry)) .stack) (now (self .entry) .ready)) (now (self .entry)) (now (self .exit)) r ⌝ }
+        ensures bound { λ _. ⌜ now (self .exit) .ready ≤ now (self .entry) .ready + 1 ⌝ }
     {
         match (self.stage, role, self.ready) {
             (Stage::Start, Role::Head, _) => {
@@ -162,10 +180,10 @@ impl Machine {
     }
 
     // Takes one frame more.
-    pub fn take_frame(&mut self, f: Frame, place: usize) -> Result<(), Fault>
+    pub(crate) fn take_frame(&mut self, f: Frame, place: usize) -> Result<(), Fault>
         requires { ⌜ now self .ready ≤ 256 ⌝ }
-        ensures does { λ r. ⌜ Does (step place (state-of (now (self .entry))) f) (now (self .entry)) (now (self .exit)) r ⌝ }
-        ensures grows { λ _. ⌜ now (self .exit) .ready ≤ now (self .entry) .ready + 1 ⌝ }
+        ensures result { λ r. ⌜ Does (step place (state-of (now (self .entry))) f) (now (self .entry)) (now (self .exit)) r ⌝ }
+        ensures bound { λ _. ⌜ now (self .exit) .ready ≤ now (self .entry) .ready + 1 ⌝ }
     {
         if let Stage::Ended = self.stage {
             return Err(Fault::AfterEnd(place));
@@ -182,7 +200,7 @@ impl Machine {
     }
 
     // Whether the sheet has ended, at that count of frames.
-    pub fn ended_at(&self, count: usize) -> Result<(), Fault>
+    pub(crate) fn ended_at(&self, count: usize) -> Result<(), Fault>
         ensures { λ r. ⌜ Judged (ending count (now (self .entry) .stage)) r ⌝ }
     {
         match self.stage {

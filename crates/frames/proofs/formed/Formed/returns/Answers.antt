@@ -1,13 +1,22 @@
-use mathlib.Core.Path.{ap, _∙_}
-use Rattle.syntax.specs.declared.frame.Frame.{Frame}
-use Rattle.syntax.specs.Writing.{type-of}
-use Rattle.frames.proofs.Readings.{first, returns-is}
+use mathlib.Core.Path.{subst}
+use lib.ListN.{getD}
+use Rattle.syntax.specs.Writing.{blank}
+use Rattle.syntax.specs.Types.{TypeOf}
+use Rattle.frames.proofs.Readings.{returns-front, returns-tree, returns-some}
 use Rattle.frames.proofs.formed.Formed.returns.Needs as need
 
-pub returns : need.returns
-returns c =
+pub returns-in-Some : need.returns-in-Some
+returns-in-Some c =
     let s = c .args .self .now in
+    let e = subst (TypeOf (getD (s .frames) 0 blank .t)) (c .in-Some .is) (c .type-of .ensures .result) in
     record {
-      value = c .type-of .ensures ∙ ap (λ (f : Frame). type-of (f .t)) (first (s .frames) (s .count) (s .full) (s .within) (s .formed));
-      tree = λ d e. c .type-of .ensures ∙ returns-is (s .frames) (s .count) (s .full) (s .within) (s .formed) d e;
+      result = returns-front (s .frames) (s .count) (s .full) (s .within) (s .formed) (c .in-Some .t) e;
+      tree = returns-tree (s .frames) (s .count) (s .full) (s .within) (s .formed) (c .in-Some .t) e;
     }
+
+-- HEAD's field has the number of a type
+pub returns-in-None : need.returns-in-None
+returns-in-None c =
+    let s = c .args .self .now in
+    let e = subst (TypeOf (getD (s .frames) 0 blank .t)) (c .in-None .is) (c .type-of .ensures .result) in
+    absurd (returns-some (s .frames) (s .count) (s .full) (s .within) (s .formed) e)

@@ -1,7 +1,0 @@
-use mathlib.Core.Path.{refl}
-use Rattle.syntax.specs.Form.{step}
-use Rattle.frames.proofs.examples.examples_agree.Needs as need
-
-pub returns : need.returns
-unfolding step
-returns c = refl

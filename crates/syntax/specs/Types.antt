@@ -1,0 +1,20 @@
+-- The types and their numbers, each told by the other.
+use mathlib.Core.Path.{_≡_}
+use Prim.Native.Nat.{ℕ}
+use Rattle.std.specs.declared.option.Option.{Option}
+use Rattle.std.specs.declared.option.Option.the-variants.{Some, None}
+use Rattle.syntax.specs.declared.frame.«Type».{«Type» as Ty}
+use Rattle.syntax.specs.Writing.{type-code}
+
+-- the type that has the number, or none where no type has it
+abbrev pub TypeOf : ℕ → Option Ty → Type 0
+TypeOf n (Some t) = type-code t ≡ n
+TypeOf n None = (t : Ty) → type-code t ≡ n → ⊥
+
+-- a type's number leads back to the type
+abbrev pub LeadsBack : Ty → ℕ → Type 0
+LeadsBack t n = (o : Option Ty) → TypeOf n o → o ≡ Some t
+
+-- a number that some type has leads to that type
+abbrev pub LeadsToType : ℕ → Option Ty → Type 0
+LeadsToType n o = (t : Ty) → type-code t ≡ n → o ≡ Some t
