@@ -9,8 +9,8 @@ use Rattle.std.specs.declared.result.Result.{Result}
 use Rattle.std.specs.declared.result.Result.the-variants.{Ok, Err}
 use Rattle.syntax.specs.declared.frame.Frame.{Frame}
 use Rattle.syntax.specs.Form.{accepted, forms}
-use Rattle.frames.specs.declared.fault.Fault.{Fault}
-use Rattle.frames.specs.Codec.{Reads}
+use Rattle.syntax.specs.declared.fault.Fault.{Fault}
+use Rattle.codec.specs.Codec.{Reads}
 use Rattle.frames.specs.States.{Refuses}
 use Rattle.driver.specs.declared.outcome.Outcome.{Outcome}
 use Rattle.driver.specs.declared.outcome.Outcome.the-variants.{Refused, Accepted}

@@ -7,9 +7,9 @@ use lib.ListN.{length, take}
 use Rattle.std.specs.declared.result.Result.{Result}
 use Rattle.std.specs.declared.result.Result.the-variants.{Ok, Err}
 use Rattle.syntax.specs.declared.frame.Frame.{Frame}
-use Rattle.frames.specs.declared.fault.Fault.{Fault}
+use Rattle.syntax.specs.declared.fault.Fault.{Fault}
 use Rattle.syntax.specs.Form.{accepted, forms}
-use Rattle.frames.specs.Codec.{Reads}
+use Rattle.codec.specs.Codec.{Reads}
 use Rattle.frames.specs.States.{Refuses}
 use Rattle.driver.specs.declared.outcome.Outcome.{Outcome}
 use Rattle.driver.specs.declared.outcome.Outcome.the-variants.{TooLong, Refused, Accepted}

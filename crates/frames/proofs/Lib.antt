@@ -1,7 +1,3 @@
-pub mod Hex
-pub mod Lines
-pub mod TextTurns
-pub mod TextLaw
 pub mod Stack
 pub mod Padded
 pub mod Readings

@@ -8,8 +8,8 @@ use Rattle.syntax.specs.Form.{refused, forms}
 use Rattle.syntax.specs.Law.{HasNoTree, Stops}
 use Rattle.syntax.proofs.Law.{has-tree, has-no-tree}
 use Rattle.syntax.proofs.Stops.{stops}
-use Rattle.frames.specs.declared.fault.Fault.{Fault}
-use Rattle.frames.specs.Faults.{number, place}
+use Rattle.syntax.specs.declared.fault.Fault.{Fault}
+use Rattle.syntax.specs.Faults.{number, place}
 use Rattle.frames.specs.States.{Judged}
 use Rattle.frames.specs.Sheets.{Lawful}
 

@@ -9,8 +9,8 @@ use Rattle.syntax.specs.declared.frame.Frame.{Frame}
 use Rattle.syntax.specs.Writing.{blank}
 use Rattle.syntax.specs.Law.{HasTree, HasNoTree, Stops}
 use Rattle.frames.specs.declared.formed.Formed.{Formed}
-use Rattle.frames.specs.declared.fault.Fault.{Fault}
-use Rattle.frames.specs.Faults.{number, place}
+use Rattle.syntax.specs.declared.fault.Fault.{Fault}
+use Rattle.syntax.specs.Faults.{number, place}
 
 -- the frames of a formed sheet
 abbrev pub frames-of : Formed → List Frame

@@ -9,8 +9,8 @@ use Rattle.std.specs.declared.result.Result.the-variants.{Ok, Err}
 use Rattle.frames.specs.declared.machine.Machine.{Machine}
 use Rattle.syntax.specs.declared.stages.Unfinished.{Unfinished}
 use Rattle.syntax.specs.declared.stages.Unfinished.the-variants.{Block}
-use Rattle.frames.specs.declared.fault.Fault.{Fault}
-use Rattle.frames.specs.Faults.{number, layer, sheet, place}
+use Rattle.syntax.specs.declared.fault.Fault.{Fault}
+use Rattle.syntax.specs.Faults.{number, layer, sheet, place}
 use Rattle.syntax.specs.Form.{Answer, fine, refused, Verdict, accepted, State, at, finish}
 
 -- the first d entries, the last of them first

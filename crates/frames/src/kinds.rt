@@ -7,6 +7,7 @@ use syntax::Row;
 use syntax::Span;
 
 mod rows;
+mod spans;
 
 // The row of a kind, if there is such a kind.
 pub(crate) fn row_of(kind: u8) -> Option<Row>

@@ -14,3 +14,4 @@ pub struct Machine {
 }
 
 pub mod steps;
+pub mod things;

@@ -7,3 +7,4 @@ pub mod Form
 pub mod Law
 pub mod Heads
 pub mod Examples
+pub mod Faults

@@ -1,9 +1,12 @@
 // The syntax of CPP: frames, the table of kinds, trees and their linear writing, and the form of a sheet.
 pub mod examples;
+pub mod fault;
 pub mod frame;
 pub mod kinds;
 pub mod stages;
 
+pub use fault::Diagnostic;
+pub use fault::Fault;
 pub use frame::Frame;
 pub use frame::Parameter;
 pub use frame::Type;

@@ -9,8 +9,8 @@ ghost use Rattle.syntax.specs.Form.{accepted, forms};
 ghost use Rattle.frames.specs.States.{Judged};
 ghost use Rattle.frames.specs.Sheets.{frames-of, Filled, Leaves, Lawful};
 use super::Formed;
-use crate::fault::Fault;
 use crate::machine::Machine;
+use syntax::Fault;
 use syntax::Frame;
 
 // So many frames may a sheet have.

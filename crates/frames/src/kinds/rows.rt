@@ -1,28 +1,7 @@
 // The rows of the table of kinds: the ranges of the fields, and the operand effect.
+use super::spans::*;
 use syntax::Role;
 use syntax::Row;
-use syntax::Span;
-
-// A field that a kind lacks is 0.
-const LACKING: Span = Span { low: 0, high: 0 };
-
-const RETURN_TYPE: Span = Span { low: 1, high: 5 };
-
-const VALUE_TYPE: Span = Span { low: 1, high: 4 };
-
-const ANY_NAME: Span = Span {
-    low: 0,
-    high: 65535,
-};
-
-const ANY_LOAD: Span = Span {
-    low: 0,
-    high: 4294967295,
-};
-
-const UP_TO_16: Span = Span { low: 0, high: 16 };
-
-const FROM_1_TO_16: Span = Span { low: 1, high: 16 };
 
 // The rows that many kinds start from: no fields, a name alone, a type and a name.
 const BARE: Row = Row {

@@ -5,7 +5,7 @@ use Rattle.std.proofs.shelf.Results.{err-from-errBy}
 use Rattle.syntax.specs.Writing.{blank}
 use Rattle.syntax.specs.Form.{forms, ending}
 use Rattle.syntax.proofs.Runs.{forms-long, forms-short, run-more, run-stop, run-end}
-use Rattle.frames.specs.declared.fault.Fault.the-variants.{TooLong}
+use Rattle.syntax.specs.declared.fault.Fault.the-variants.{TooLong}
 use Rattle.frames.specs.States.{Refuses, state-of, Judged}
 use Rattle.frames.proofs.Verdicts.{lawful-refusal, lawful}
 use Rattle.frames.proofs.formed.forming.judged.Needs as need

@@ -1,0 +1,4 @@
+pub mod Hex
+pub mod Lines
+pub mod TextTurns
+pub mod TextLaw
