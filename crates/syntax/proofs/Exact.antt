@@ -1,4 +1,4 @@
--- The form accepted-tree exactly the writings of trees within the limits, each of one tree.
+-- The form accepts exactly the writings of trees within the limits, each of one tree.
 use mathlib.Core.Path.{_≡_, refl, sym, _∙_, ap, ap₂, subst}
 use mathlib.Core.Bool.{Bool, true, false, cond}
 use mathlib.Core.Option.{Option, none as nothing, some}

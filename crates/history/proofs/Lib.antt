@@ -1,0 +1,27 @@
+-- The proof of the law of kept verdicts.
+pub mod Words
+pub mod Heads
+pub mod Parts
+pub mod Allowed
+pub mod Sounds
+pub mod Touching
+pub mod Due
+pub mod Last
+pub mod Valid
+pub mod Accepts
+pub mod Refuses
+pub mod Rows
+pub mod Fresh
+pub mod Replaced
+pub mod Walked
+pub mod Keeps
+pub mod Decides
+pub mod Readable
+pub mod Settles
+pub mod Shown
+pub mod Listed
+pub mod Afresh
+pub mod Checks
+pub mod Laws
+pub mod Promises
+pub mod Witness

@@ -1,0 +1,19 @@
+-- The statements of the law of kept verdicts, from the smallest words to the law.
+pub mod Words
+pub mod Language
+pub mod Calls
+pub mod Plain
+pub mod Due
+pub mod Accepts
+pub mod Refuses
+pub mod Areas
+pub mod Working
+pub mod Runs
+pub mod Stands
+pub mod Known
+pub mod Settles
+pub mod Readable
+pub mod Law
+pub mod Promise
+pub mod Example
+pub mod Trial

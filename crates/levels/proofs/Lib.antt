@@ -1,0 +1,16 @@
+pub mod Refusing
+pub mod Starting
+pub mod Tabling
+pub mod Reading
+pub mod Taking
+pub mod Searching
+pub mod Finding
+pub mod Cutting
+pub mod Storing
+pub mod Declaring
+pub mod Linking
+pub mod Walking
+pub mod Chaining
+pub mod Packing
+pub mod Pushing
+pub mod Unpacking

@@ -1,0 +1,8 @@
+pub mod Refusals
+pub mod Store
+pub mod Search
+pub mod Entries
+pub mod Starts
+pub mod Layout
+pub mod Linked
+pub mod Heads
