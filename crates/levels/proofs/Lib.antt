@@ -11,6 +11,3 @@ pub mod Declaring
 pub mod Linking
 pub mod Walking
 pub mod Chaining
-pub mod Packing
-pub mod Pushing
-pub mod Unpacking

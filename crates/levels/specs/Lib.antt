@@ -5,4 +5,3 @@ pub mod Entries
 pub mod Starts
 pub mod Layout
 pub mod Linked
-pub mod Heads

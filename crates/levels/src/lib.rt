@@ -2,7 +2,6 @@
 pub mod buckets;
 pub mod chains;
 pub mod entry;
-pub mod heads;
 pub mod pile;
 pub mod refusal;
 pub mod search;

@@ -13,8 +13,8 @@ use Rattle.std.specs.declared.option.Option.{Option}
 use Rattle.std.specs.declared.option.Option.the-variants.{Some, None}
 use Rattle.std.proofs.shelf.Tests.{cases-lt}
 use Rattle.std.proofs.shelf.Lists.{length-reverse, reverse-append, length-append, length-take}
-use Rattle.levels.specs.Heads.{digits, low, fits, packed, head-of, bare-head, return-of, count-of, pushed, extended, parameters-of, Pushes, Unpacks}
-use Rattle.levels.proofs.Packing.{and-left, and-right, low-more, low-reverse, digits-small, return-back, count-back, digits-part, fits-few, fits-low, fits-code, parameters-back, packed-return}
+use Rattle.heads.specs.Heads.{digits, low, fits, packed, head-of, bare-head, return-of, count-of, pushed, extended, parameters-of, Pushes, Unpacks}
+use Rattle.heads.proofs.Packing.{and-left, and-right, low-more, low-reverse, digits-small, return-back, count-back, digits-part, fits-few, fits-low, fits-code, parameters-back, packed-return}
 
 -- what a head that there is tells
 module _ (h : ℕ) where

@@ -4,9 +4,9 @@ use lib.ListN.{length, take, getD}
 use native.Mathlib.Omega.{arith}
 use Rattle.std.specs.declared.option.Option.the-variants.{Some, None}
 use Rattle.std.proofs.shelf.Lists.{take-more, take-all}
-use Rattle.levels.specs.Heads.{head-of}
-use Rattle.levels.proofs.Pushing.{head-bare, head-none, unpacked}
-use Rattle.levels.proofs.heads.pack.Needs as need
+use Rattle.heads.specs.Heads.{head-of}
+use Rattle.heads.proofs.Pushing.{head-bare, head-none, unpacked}
+use Rattle.heads.proofs.pack.Needs as need
 
 pub returns-in-Break-head : need.returns-in-Break-head
 returns-in-Break-head c =

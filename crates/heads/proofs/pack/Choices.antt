@@ -1,8 +1,8 @@
 use mathlib.Core.Path.{_≡_}
 use lib.ListN.{take}
 use Rattle.std.specs.declared.option.Option.the-variants.{Some}
-use Rattle.levels.specs.Heads.{head-of}
-use Rattle.levels.proofs.heads.pack.Given as given
+use Rattle.heads.specs.Heads.{head-of}
+use Rattle.heads.proofs.pack.Given as given
 
 -- the head of the parameters up to the counter
 abbrev pub Inv-loop-i : given.InvT-loop-i

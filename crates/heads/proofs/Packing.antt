@@ -11,7 +11,7 @@ use borrow.Author.Tests.{true-ltb, lt-ltb, le-ltb}
 use Rattle.std.specs.declared.option.Option.{Option}
 use Rattle.std.specs.declared.option.Option.the-variants.{Some, None}
 use Rattle.std.proofs.shelf.Lists.{length-reverse, reverse-append, reverse-reverse}
-use Rattle.levels.specs.Heads.{digits, low, fits, packed, head-of, return-of, count-of, digits-of, parameters-of}
+use Rattle.heads.specs.Heads.{digits, low, fits, packed, head-of, return-of, count-of, digits-of, parameters-of}
 
 pub and-left : (a b : Bool) → (a && b) ≡ true → a ≡ true
 and-left true b h = refl

@@ -1,9 +1,9 @@
 use mathlib.Core.Path.{_≡_, sym, _∙_}
 use Prim.Native.Nat.{_-_, _/_}
 use native.Mathlib.Omega.{arith}
-use Rattle.levels.specs.Heads.{count-of, parameters-of}
-use Rattle.levels.proofs.Unpacking.{length-parameters, nth-out, nth-parameters, nearer-none, nearer-more, nearer-all}
-use Rattle.levels.proofs.heads.parameter.Needs as need
+use Rattle.heads.specs.Heads.{count-of, parameters-of}
+use Rattle.heads.proofs.Unpacking.{length-parameters, nth-out, nth-parameters, nearer-none, nearer-more, nearer-all}
+use Rattle.heads.proofs.parameter.Needs as need
 
 pub returns-then-i-n : need.returns-then-i-n
 returns-then-i-n c = record { result = nth-out (parameters-of (c .args .head)) (c .args .i) (omega (arith, c .count-n .ensures .result, c .if-i-n .taken)) }

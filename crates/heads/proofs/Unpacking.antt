@@ -6,7 +6,7 @@ use native.Mathlib.Omega.{arith}
 use lib.ListN.{length, getD}
 use Rattle.std.specs.declared.option.Option.the-variants.{Some, None}
 use Rattle.std.proofs.shelf.Lists.{length-reverse, getD-reverse}
-use Rattle.levels.specs.Heads.{digits-of, count-of, parameters-of, nth}
+use Rattle.heads.specs.Heads.{digits-of, count-of, parameters-of, nth}
 
 length-digits : (n d : ℕ) → length (digits-of n d) ≡ n
 length-digits zero d = refl

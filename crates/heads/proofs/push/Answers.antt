@@ -5,9 +5,9 @@ use borrow.Author.Tests.{lt-ltb, le-ltb}
 use borrow.Author.Needs.{needs}
 use native.Mathlib.Omega.{arith}
 use Rattle.std.specs.declared.option.Option.the-variants.{Some, None}
-use Rattle.levels.specs.Heads.{pushed, extended, count-of}
-use Rattle.levels.proofs.Pushing.{pushes}
-use Rattle.levels.proofs.heads.push.Needs as need
+use Rattle.heads.specs.Heads.{pushed, extended, count-of}
+use Rattle.heads.proofs.Pushing.{pushes}
+use Rattle.heads.proofs.push.Needs as need
 
 pub returns-then-count-ge-MOST-PARAMETERS : need.returns-then-count-ge-MOST-PARAMETERS
 returns-then-count-ge-MOST-PARAMETERS c =

@@ -1,7 +1,7 @@
 // The head of a function packed in a number: the codes of its parameter types in order, their count, and the code of its return type.
 ghost use mathlib.Core.Path.{_≡_};
 ghost use lib.ListN.{length};
-ghost use Rattle.levels.specs.Heads.{bare-head, pushed, head-of, Pushes, Unpacks, parameters-of, return-of, nth};
+ghost use Rattle.heads.specs.Heads.{bare-head, pushed, head-of, Pushes, Unpacks, parameters-of, return-of, nth};
 
 // A code is below 8.
 const CODES: u64 = 8;
