@@ -163,3 +163,29 @@ fn heads_are_unpacked() -> Result<(), Fail> {
     check_eq(parameter(head, 15), Some(7))?;
     check_eq(parameter(head, 16), None)
 }
+
+// A store of heads gives back the head of the level nearest the top.
+fn keeps_heads<S: Declaring<u64>>(s: &mut S, outer: u64, inner: u64) -> Result<(), Fail> {
+    s.wipe();
+    s.enter()?;
+    s.declare(0, outer)?;
+    s.enter()?;
+    s.declare(0, inner)?;
+    check_eq(s.look(0), Some(inner))?;
+    s.leave()?;
+    check_eq(s.look(0), Some(outer))
+}
+
+#[test]
+fn heads_in_stores() -> Result<(), Fail> {
+    let outer = pack(&[3, 2], 5).ok_or("packed")?;
+    let inner = pack(&[], 1).ok_or("packed")?;
+    let mut piled = [Entry {
+        name: 0,
+        value: 0u64,
+        next: 9,
+    }; 2];
+    let mut chained = piled;
+    keeps_heads(&mut Pile::new(&mut piled), outer, inner)?;
+    keeps_heads(&mut Chains::new(&mut chained), outer, inner)
+}
