@@ -4,6 +4,7 @@ ghost use mathlib.Core.List.{map};
 ghost use Prim.Native.Nat.{ℕ};
 ghost use Rattle.levels.specs.Search.{newest-of, Newest};
 use crate::entry::Entry;
+use syntax::Frame;
 
 // What has a name.
 pub trait Named {
@@ -15,6 +16,14 @@ pub trait Named {
 
 pub impl<V> Named for Entry<V> as EntryNamed {
     ghost label = { λ e. e .name };
+
+    fn name(&self) -> u16 {
+        self.name
+    }
+}
+
+pub impl Named for Frame as FrameNamed {
+    ghost label = { λ f. f .name };
 
     fn name(&self) -> u16 {
         self.name

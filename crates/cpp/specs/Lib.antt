@@ -1,0 +1,14 @@
+pub mod Sheet
+pub mod Heads
+pub mod Text
+pub mod Judge
+pub mod Books
+pub mod Cpp
+pub mod Promises
+pub mod Forming
+pub mod Kinds
+pub mod Reading
+pub mod Tells
+pub mod Judges
+pub mod Samples
+pub mod Trial

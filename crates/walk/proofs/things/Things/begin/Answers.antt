@@ -1,0 +1,28 @@
+use mathlib.Core.Path.{_≡_, refl, sym, ap, _∙_}
+use Prim.Native.Nat.{ℕ, _+_, _-_, _<_, _≤_, _%_, _/_}
+use lib.ListN.{length, getD, set, drop}
+use native.Mathlib.Omega.{arith}
+use borrow.Author.Needs.{needs}
+use Rattle.std.proofs.shelf.Lists.{length-set}
+use Rattle.syntax.specs.Form.{finish}
+use Rattle.rules.specs.Walk.{alone}
+use Rattle.walk.specs.Stacks.{down, types-of, things-of}
+use Rattle.walk.proofs.Downs as downs
+use mathlib.Core.List.{[]}
+use Rattle.syntax.specs.declared.stages.Unfinished.the-variants.{Block, Loop, Choice}
+use Rattle.walk.proofs.things.Things.begin.Needs as need
+
+pub index-self-self : need.index-self-self
+index-self-self c = let l = downs.length-down Block (c .args .self .now .stack) (c .args .self .now .depth) in omega (arith, c .args .self .now .room)
+
+pub ghost-self : need.ghost-self
+ghost-self c =
+    let l = downs.length-down Block (c .args .self .now .stack) (c .args .self .now .depth) in
+    let s = length-set (c .args .self .now .stack) (c .args .self .now .depth) (c .args .x) in
+    let r = c .args .self .now .room in
+    (omega arith, (omega arith, tt))
+
+pub returns : need.returns
+returns c =
+    let l = downs.length-down Block (c .args .self .now .stack) (c .args .self .now .depth) in
+    downs.pushed Block (c .args .self .now .stack) (c .args .self .now .depth) (c .args .x) (omega (arith, c .args .self .now .room))

@@ -1,0 +1,9 @@
+pub mod Stacks
+pub mod Judge
+pub mod Step
+pub mod Machines
+pub mod Params
+pub mod Outcomes
+pub mod Tied
+pub mod Examined
+pub mod Recorded

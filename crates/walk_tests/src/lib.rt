@@ -1,0 +1,4 @@
+// Sheets examined over both stores.
+pub mod sheets;
+#[cfg(test)]
+mod tests;
