@@ -18,7 +18,7 @@ const DOUBLE: u8 = 3;
 const STRING: u8 = 4;
 
 // How many operands an expression's last frame takes.
-pub fn parts(frame: Frame) -> usize
+pub(crate) fn parts(frame: Frame) -> usize
     ensures { λ r. ⌜ r ≡ arity frame ⌝ }
 {
     match frame.kind {
@@ -62,7 +62,7 @@ fn call(head: Option<u64>, count: u32, operands: &Operands) -> Result<u8, Violat
 }
 
 // The type of the expression that ends at the frame.
-pub fn type_of<H: Looking<u64>, S: Looking<u8>>(
+pub(crate) fn type_of<H: Looking<u64>, S: Looking<u8>>(
     frame: Frame,
     operands: &Operands,
     heads: &H,

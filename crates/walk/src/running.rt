@@ -14,7 +14,7 @@ use levels::store::Looking;
 use syntax::Frame;
 
 // Sets every number to 0.
-pub fn blank(column: &mut [u8])
+pub(crate) fn blank(column: &mut [u8])
     ensures { λ _. ⌜ now (column .exit) ≡ replicate (length (now (column .entry))) 0 ⌝ }
 {
     for x in column.iter_mut() {
@@ -23,7 +23,7 @@ pub fn blank(column: &mut [u8])
 }
 
 // Walks a sheet that has no parameter twice: its types into the blank column, or the first violation.
-pub fn run<H: Looking<u64>, S: Declaring<u8>>(
+pub(crate) fn run<H: Looking<u64>, S: Declaring<u8>>(
     frames: &[Frame],
     column: &mut [u8],
     heads: &H,

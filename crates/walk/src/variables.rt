@@ -8,7 +8,7 @@ ghost use Rattle.levels.specs.Store.{added, below, standing, stands, with-level
 use levels::store::Declaring;
 
 // A level more.
-pub fn enter<S: Declaring<u8>>(variables: &mut S)
+pub(crate) fn enter<S: Declaring<u8>>(variables: &mut S)
     requires { ⌜ length (S·Looking .meaning (now variables) .levels) < 33 ⌝ }
     ensures { λ _. ⌜ S·Looking .meaning (now (variables .exit)) ≡ with-levels (S·Looking .meaning (now (variables .entry))) ([] ∷ S·Looking .meaning (now (variables .entry)) .levels) ⌝ }
 {
@@ -16,7 +16,7 @@ pub fn enter<S: Declaring<u8>>(variables: &mut S)
 }
 
 // The top level away.
-pub fn leave<S: Declaring<u8>>(variables: &mut S)
+pub(crate) fn leave<S: Declaring<u8>>(variables: &mut S)
     requires { ⌜ 0 < length (S·Looking .meaning (now variables) .levels) ⌝ }
     ensures { λ _. ⌜ S·Looking .meaning (now (variables .exit)) ≡ with-levels (S·Looking .meaning (now (variables .entry))) (below (S·Looking .meaning (now (variables .entry)) .levels)) ⌝ }
 {
@@ -24,7 +24,7 @@ pub fn leave<S: Declaring<u8>>(variables: &mut S)
 }
 
 // A name more on the top level.
-pub fn add<S: Declaring<u8>>(variables: &mut S, name: u16, t: u8)
+pub(crate) fn add<S: Declaring<u8>>(variables: &mut S, name: u16, t: u8)
     requires { ⌜ 0 < length (S·Looking .meaning (now variables) .levels) ⌝ ∗ ⌜ stands (S·Looking .meaning (now variables) .levels) name ≡ false ⌝ ∗ ⌜ standing (S·Looking .meaning (now variables) .levels) < S·Looking .meaning (now variables) .capacity ⌝ }
     ensures { λ _. ⌜ S·Looking .meaning (now (variables .exit)) ≡ with-levels (S·Looking .meaning (now (variables .entry))) (added (S·Looking .meaning (now (variables .entry)) .levels) (name, t)) ⌝ }
 {

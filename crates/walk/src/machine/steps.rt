@@ -25,7 +25,7 @@ const VOID: u8 = 5;
 
 impl Machine {
     // Before the first frame.
-    pub fn new() -> Self
+    pub(crate) fn new() -> Self
         ensures { λ r. ⌜ (types-of (r .operands) ≡ []) × (things-of (r .things) ≡ []) × (r .pending ≡ Nothing) ⌝ }
     {
         Machine {
@@ -36,7 +36,7 @@ impl Machine {
     }
 
     // Takes one frame: the number for the column, or the rule that is broken.
-    pub fn step<H: Looking<u64>, S: Declaring<u8>>(
+    pub(crate) fn step<H: Looking<u64>, S: Declaring<u8>>(
         &mut self,
         frame: Frame,
         frames: &[Frame],

@@ -10,7 +10,7 @@ use super::Operands;
 
 impl Operands {
     // None is ready.
-    pub fn new() -> Self
+    pub(crate) fn new() -> Self
         ensures { λ r. ⌜ types-of r ≡ [] ⌝ }
     {
         Operands {
@@ -20,7 +20,7 @@ impl Operands {
     }
 
     // The type of the operand that so many stand above.
-    pub fn at(&self, above: usize) -> u8
+    pub(crate) fn at(&self, above: usize) -> u8
         requires { ⌜ above < length (types-of (now self)) ⌝ }
         ensures { λ r. ⌜ r ≡ getD (types-of (now (self .entry))) above 5 ⌝ }
     {
@@ -28,7 +28,7 @@ impl Operands {
     }
 
     // So many away, and one more.
-    pub fn settle(&mut self, taken: usize, t: u8)
+    pub(crate) fn settle(&mut self, taken: usize, t: u8)
         requires { ⌜ taken ≤ length (types-of (now self)) ⌝ ∗ ⌜ length (types-of (now self)) < 256 + taken ⌝ }
         ensures { λ _. ⌜ types-of (now (self .exit)) ≡ t ∷ drop taken (types-of (now (self .entry))) ⌝ }
     {
@@ -38,7 +38,7 @@ impl Operands {
     }
 
     // The newest away.
-    pub fn pop(&mut self)
+    pub(crate) fn pop(&mut self)
         requires { ⌜ 0 < length (types-of (now self)) ⌝ }
         ensures { λ _. ⌜ types-of (now (self .exit)) ≡ drop 1 (types-of (now (self .entry))) ⌝ }
     {
@@ -46,7 +46,7 @@ impl Operands {
     }
 
     // Whether the newest, as many as the head has parameters, have the types of those, in order.
-    pub fn fit(&self, head: u64) -> bool
+    pub(crate) fn fit(&self, head: u64) -> bool
         requires { ⌜ length (parameters-of head) ≤ length (types-of (now self)) ⌝ }
         ensures { λ r. ⌜ r ≡ fitting (parameters-of head) (types-of (now (self .entry))) ⌝ }
     {

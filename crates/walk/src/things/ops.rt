@@ -11,7 +11,7 @@ use syntax::Unfinished;
 
 impl Things {
     // Nothing is unfinished.
-    pub fn new() -> Self
+    pub(crate) fn new() -> Self
         ensures { λ r. ⌜ things-of r ≡ [] ⌝ }
     {
         Things {
@@ -21,7 +21,7 @@ impl Things {
     }
 
     // Whether the next statement stands directly under a loop or a choice.
-    pub fn alone(&self) -> bool
+    pub(crate) fn alone(&self) -> bool
         ensures { λ r. ⌜ r ≡ under (things-of (now (self .entry))) ⌝ }
     {
         if self.depth == 0 {
@@ -35,7 +35,7 @@ impl Things {
     }
 
     // Begins one more.
-    pub fn begin(&mut self, x: Unfinished)
+    pub(crate) fn begin(&mut self, x: Unfinished)
         requires { ⌜ length (things-of (now self)) < 32 ⌝ }
         ensures { λ _. ⌜ things-of (now (self .exit)) ≡ x ∷ things-of (now (self .entry)) ⌝ }
     {
@@ -44,7 +44,7 @@ impl Things {
     }
 
     // Ends the innermost, and with it a statement.
-    pub fn close(&mut self)
+    pub(crate) fn close(&mut self)
         requires { ⌜ 0 < length (things-of (now self)) ⌝ }
         ensures { λ _. ⌜ things-of (now (self .exit)) ≡ finishing (drop 1 (things-of (now (self .entry)))) ⌝ }
     {
@@ -53,7 +53,7 @@ impl Things {
     }
 
     // Finishes a statement.
-    pub fn finish(&mut self)
+    pub(crate) fn finish(&mut self)
         ensures { λ _. ⌜ things-of (now (self .exit)) ≡ finishing (things-of (now (self .entry))) ⌝ }
     {
         while self.depth > 0 {
