@@ -17,6 +17,7 @@ use Rattle.syntax.proofs.Heads.{head-type}
 use Rattle.rules.specs.declared.violation.Violation.{Violation}
 use Rattle.rules.specs.Heads.{Signature, Levels}
 use Rattle.rules.specs.Faults.{Fault, fault, _>>=_, placed}
+use Rattle.rules.specs.Typed.{column-left}
 use Rattle.rules.specs.Tokens.{token}
 use Rattle.rules.specs.Walk.{State as Walking, move, step, walk, start as walk-start, returned, walk-frames, walk-sheet}
 use Rattle.rules.proofs.Results.{type-back}
@@ -25,7 +26,7 @@ use Rattle.rules.proofs.Decided.{sheet-definition}
 use Rattle.walk.specs.Judge.{Numbers}
 use Rattle.walk.specs.Step.{State, stepped, Turn, turn, Outcome, ended, broken, walked, start}
 use Rattle.walk.specs.Outcomes.{outcome, verdict-of, column-of, levels-of}
-use Rattle.walk.specs.Tied.{coded-levels, Holds, walk-verdict, walk-column, walk-levels}
+use Rattle.walk.specs.Tied.{coded-levels, Holds, walk-verdict, walk-levels}
 use Rattle.walk.proofs.Turns.{goes, breaks, over}
 use Rattle.walk.proofs.Moving.{coded-state, Same, moves-same}
 
@@ -82,8 +83,8 @@ unfolding sheet-of
 verdict-told (Ok s) = refl
 verdict-told (Err (fault v p Γ)) = refl
 
-column-told : (q : Result Walking Fault) → column-of (told q) ≡ walk-column (sheet-of q)
-unfolding sheet-of
+column-told : (q : Result Walking Fault) → column-of (told q) ≡ column-left (sheet-of q)
+unfolding sheet-of column-left
 column-told (Ok s) = ap (λ n. reverse (s .column) ++ replicate (256 - n) 0) (sym (length-reverse (s .column)))
 column-told (Err (fault v p Γ)) = refl
 
@@ -97,7 +98,7 @@ module _ (S : Signature) (hs : List Numbers) (holds : Holds S hs) (fs : List Fra
   unfolding sheet-of
   verdict-tied = ap verdict-of (outcome-told S hs holds fs h) ∙ verdict-told (walk-frames S (returned fs) fs)
 
-  pub column-tied : column-of (outcome hs fs) ≡ walk-column (walk-sheet S fs)
+  pub column-tied : column-of (outcome hs fs) ≡ column-left (walk-sheet S fs)
   unfolding sheet-of
   column-tied = ap column-of (outcome-told S hs holds fs h) ∙ column-told (walk-frames S (returned fs) fs)
 

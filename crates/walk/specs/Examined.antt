@@ -14,6 +14,7 @@ use Rattle.levels.specs.Store.{Store, with-levels}
 use Rattle.heads.specs.Heads.{packed}
 use Rattle.rules.specs.Heads.{Signature}
 use Rattle.rules.specs.Walk.{walk-sheet}
+use Rattle.rules.specs.Typed.{column-left}
 use Rattle.walk.specs.declared.verdict.Verdict.{Verdict}
 use Rattle.walk.specs.declared.verdict.Verdict.the-variants.{Altered}
 use Rattle.walk.specs.declared.verdict.Refusal.{Refusal}
@@ -22,7 +23,7 @@ use Rattle.walk.specs.Judge.{Numbers}
 use Rattle.walk.specs.Step.{Outcome}
 use Rattle.walk.specs.Outcomes.{verdict-of, column-of, levels-of}
 use Rattle.walk.specs.Params.{param-frames, param-twice}
-use Rattle.walk.specs.Tied.{Holds, walk-verdict, walk-column, walk-levels}
+use Rattle.walk.specs.Tied.{Holds, walk-verdict, walk-levels}
 
 -- the codes of a sheet's parameter types, and its head in a number
 abbrev pub param-codes : List Frame → List ℕ
@@ -47,6 +48,7 @@ column-after c capacity b o = cond (eqb (length c) 256) (cond (leb 256 capacity)
 abbrev pub store-after : ℕ → Store ℕ → Truth → Outcome → Store ℕ
 store-after n s b o = cond (eqb n 256) (cond (leb 256 (s .capacity)) (cond b (with-levels s (levels-of o)) s) s) s
 
+-- what is left of a column and a store
 pub record Leaves (before after : List ℕ) (s t : Store ℕ) (b : Truth) (o : Outcome) : Type 0 where
   pub column : after ≡ column-after before (s .capacity) b o
   pub variables : t ≡ store-after (length before) s b o
@@ -54,7 +56,7 @@ pub record Leaves (before after : List ℕ) (s t : Store ℕ) (b : Truth) (o : O
 -- answer, column and levels are those of the rules' walk over the sheet with the heads S
 pub record Walks (S : Signature) (fs : List Frame) (r : Result Verdict Refusal) (c : List ℕ) (ls : List Numbers) : Type 0 where
   pub verdict : r ≡ Ok (walk-verdict (walk-sheet S fs))
-  pub column : c ≡ walk-column (walk-sheet S fs)
+  pub column : c ≡ column-left (walk-sheet S fs)
   pub levels : ls ≡ walk-levels (walk-sheet S fs)
 
 -- so they are for every signature whose heads are held, where nothing is refused and the frames are as recorded

@@ -13,6 +13,7 @@ use Rattle.walk.specs.Step.{Outcome, ended, broken, walked, start}
 abbrev pub outcome : List Numbers → List Frame → Outcome
 outcome hs fs = walked hs (head fs .t) fs [] start
 
+-- valid, or broken at the place
 abbrev pub verdict-of : Outcome → Verdict
 verdict-of (ended c ls) = Valid
 verdict-of (broken v p ls) = Broken v p
@@ -22,6 +23,7 @@ abbrev pub column-of : Outcome → List ℕ
 column-of (ended c ls) = reverse c ++ replicate (256 - length c) 0
 column-of (broken v p ls) = replicate 256 0
 
+-- the levels at the end or at the fault
 abbrev pub levels-of : Outcome → List Numbers
 levels-of (ended c ls) = ls
 levels-of (broken v p ls) = ls

@@ -29,6 +29,7 @@ pub record State : Type 0 where
   pub things : List Unfinished
   pub names : Names
 
+-- the state of these four
 abbrev pub state : List ℕ → List Numbers → List Unfinished → Names → State
 state os ls u n = record { operands = os; levels = ls; things = u; names = n }
 
@@ -79,6 +80,7 @@ statement ρ f os ls u n =
     (cond (leb (f .kind) 0x17) (Ok (state os (below ls) (finish (drop 1 u)) idle))
     (asked (eqb 1 (getD os 0 5)) NoCondition (state (drop 1 os) ls (governed (f .kind) ∷ u) idle))))))))))))
 
+-- the same from a state
 abbrev pub stated : ℕ → Frame → State → Result State Violation
 stated ρ f s = statement ρ f (s .operands) (s .levels) (s .things) (s .names)
 
@@ -87,6 +89,7 @@ pub record Turn : Type 0 where
   pub byte : ℕ
   pub next : State
 
+-- the two together
 abbrev pub turn : ℕ → State → Turn
 turn b s = record { byte = b; next = s }
 

@@ -1,8 +1,8 @@
 -- What the walk of the rules answers and leaves, in the numbers of the code.
 use mathlib.Core.Path.{_≡_}
-use mathlib.Core.List.{List, [], _++_, map}
-use Prim.Native.Nat.{ℕ, _-_, _≤_}
-use lib.ListN.{length, replicate}
+use mathlib.Core.List.{List, map}
+use Prim.Native.Nat.{ℕ, _≤_}
+use lib.ListN.{length}
 use Rattle.std.specs.declared.option.Option.{Option}
 use Rattle.std.specs.declared.option.Option.the-variants.{Some, None}
 use Rattle.std.specs.declared.result.Result.{Result}
@@ -40,15 +40,10 @@ Carries (Some (head us r)) o = (length us ≤ 16) × (o ≡ Some (packed-head (h
 abbrev pub Holds : Signature → List Numbers → Type 0
 Holds S hs = (f : ℕ) → Carries (S f) (looked hs f)
 
--- the verdict on a sheet that the rules' walk gave this answer
+-- the verdict on a sheet whose walk by the rules answers so
 abbrev pub walk-verdict : Result (List ℕ × Levels) Fault → Verdict
 walk-verdict (Ok a) = Valid
 walk-verdict (Err (fault v p Γ)) = Broken v p
-
--- its column: the types and 0 up to 256 numbers; after a fault 0 alone
-abbrev pub walk-column : Result (List ℕ × Levels) Fault → List ℕ
-walk-column (Ok a) = a .0 ++ replicate (256 - length (a .0)) 0
-walk-column (Err x) = replicate 256 0
 
 -- the levels of its variables
 abbrev pub walk-levels : Result (List ℕ × Levels) Fault → List Numbers

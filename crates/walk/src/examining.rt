@@ -15,8 +15,11 @@ use levels::store::Declaring;
 use levels::store::Looking;
 use syntax::Frame;
 
-// A column has so many places, and so many variables may stand at once.
+// A column has so many places.
 const PLACES: usize = 256;
+
+// So many variables may stand at once.
+const ROOM: usize = 256;
 
 // Whether the frames form a sheet with this name and head, and no parameter twice.
 fn as_recorded(frames: &[Frame], name: u16, head: u64) -> bool
@@ -45,7 +48,7 @@ pub fn examine<H: Looking<u64>, S: Declaring<u8>>(
     if column.len() != PLACES {
         return Err(Refusal::OtherColumn);
     }
-    if variables.capacity() < PLACES {
+    if variables.capacity() < ROOM {
         return Err(Refusal::SmallStore);
     }
     blank(column);

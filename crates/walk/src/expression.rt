@@ -9,6 +9,7 @@ use levels::store::Looking;
 use rules::Violation;
 use syntax::Frame;
 
+// The codes of the types that operands can be asked for.
 const BOOL: u8 = 1;
 
 const INT: u8 = 2;

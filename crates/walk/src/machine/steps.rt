@@ -19,6 +19,7 @@ use rules::Violation;
 use syntax::Frame;
 use syntax::Unfinished;
 
+// The codes of the types that a statement can ask for.
 const BOOL: u8 = 1;
 
 const VOID: u8 = 5;

@@ -19,7 +19,7 @@ returns g c =
     let o = outcome hs fs in
     let b = recorded fs (c .args .name) (c .args .head) in
     let n : length col ≡ 256 = c .if-column-ne-PLACES .left in
-    let l : 256 ≤ store .capacity = omega (arith, c .capacity .ensures .result, c .if-capacity-lt-PLACES .left) in
+    let l : 256 ≤ store .capacity = omega (arith, c .capacity .ensures .result, c .if-capacity-lt-ROOM .left) in
     let t : b ≡ true = sym (c .if-not-as-recorded .ensures tt) in
     let e = c .run .ensures in
     record {
