@@ -1,4 +1,7 @@
 // A book of 32 sheets over lent areas: put, clear and post edit it, check walks what is due, a reader tells types.
+
+#![tactic(auto)]
+
 mod areas;
 pub mod book;
 mod numbers;

@@ -1,4 +1,7 @@
 // Prints the report on a book's text from standard input.
+
+#![tactic(auto)]
+
 use book_driver::report_from;
 use std::io;
 

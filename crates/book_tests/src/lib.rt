@@ -1,4 +1,7 @@
 // Histories of calls on a book, through the library.
+
+#![tactic(auto)]
+
 #[cfg(test)]
 mod sheets;
 #[cfg(test)]

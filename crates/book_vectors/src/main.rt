@@ -1,4 +1,7 @@
 // Runs the checker on the cases of data/ and compares its report with the one it should give.
+
+#![tactic(auto)]
+
 use book_driver::report_from;
 use std::fs::File;
 use std::io::Read;

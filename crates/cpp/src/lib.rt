@@ -1,5 +1,8 @@
 // CPP as a language of the law of kept verdicts: definitions and theorems, with no code of their own.
 // Each function answers 0; what counts is the statement that its contract names.
+
+#![tactic(auto)]
+
 ghost use Rattle.history.specs.Law.{Law};
 ghost use Rattle.cpp.specs.Cpp.{cpp};
 ghost use Rattle.cpp.specs.Promises.{Promises};

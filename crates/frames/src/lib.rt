@@ -1,4 +1,7 @@
 // Frames, their text, and the form of a sheet.
+
+#![tactic(auto)]
+
 pub mod formed;
 mod kinds;
 mod machine;

@@ -1,4 +1,7 @@
 // Tests of the frames crate.
+
+#![tactic(auto)]
+
 #[cfg(test)]
 mod form_tests;
 #[cfg(test)]

@@ -1,4 +1,7 @@
 // The head of a function packed in a number: the codes of its parameter types in order, their count, and the code of its return type.
+
+#![tactic(auto)]
+
 ghost use Rattle.std.specs.Prelude.{◌≡◌, length};
 ghost use Rattle.heads.specs.Heads.{bare_head, pushed, head_of, Pushes, Unpacks, parameters_of, return_of, nth};
 

@@ -1,6 +1,6 @@
 -- Which calls the plain book accepts, in words.
 use Rattle.std.proofs.Common.{◌≡◌, ℕ, ◌<◌, ◌≤◌, Bool, true, false, not, ◌||◌, eqb, ltb, ◌↔◌, List, Some, None, Ok, Err, Option, Result, sym, refl, ap, ◌∙◌, subst, ap₂, inl, inr, arith}
-use Rattle.std.proofs.lemmas.Bool.{cond-true, cond-false, cases_lt, eq-eqb, ne_eqb, or_parts, eqb-true, le-ltb, ltb-false, not_false, and_parts, and_from}
+use Rattle.std.proofs.lemmas.Bool.{cond-true, cond-false, cases_lt, eq-eqb, ne_eqb, or_parts, eqb-true, le-ltb, ltb-false, not-false, and_parts, and_from}
 use Rattle.history.specs.Words.{updated, map_some, filled}
 use Rattle.history.specs.Language.{Fault, Signatures, head_for, Language, Entries, signature, signatures}
 use Rattle.history.specs.Calls.{refusal, sized, Call.post, Call.put, Call.clear, Call.check, History, Act, Act.wrote, Act.emptied, Act.walked, guard, unless_repeated, elsewhere, putting, formed, posting, clearing, outcome, Answer.done}
@@ -18,7 +18,7 @@ sized_true fl cl a b = ap not (and_from (eqb fl 8192) (eqb cl 8192) (eq-eqb fl 8
 -- the test passed gives both lengths
 sized_parts : (fl cl : ℕ) → not (sized fl cl) ≡ false → (fl ≡ 8192) × (cl ≡ 8192)
 sized_parts fl cl e =
-    let p = and_parts (eqb fl 8192) (eqb cl 8192) (not_false (sized fl cl) e) in
+    let p = and_parts (eqb fl 8192) (eqb cl 8192) (not-false (sized fl cl) e) in
     (eqb-true fl 8192 p.0, eqb-true cl 8192 p.1)
 
 module _ {Frame Def Text : Type 0} (L : Language Frame Def Text) where
@@ -138,7 +138,7 @@ module _ {Frame Def Text : Type 0} (L : Language Frame Def Text) where
           let q = guard_parts L (not (sized fl cl)) (refusal 32 s) (guard L (not (filled (signed s))) (refusal 35 s) (Ok (emptied s))) a.0 p.1 in
           let r = guard_parts L (not (filled (signed s))) (refusal 35 s) (Ok (emptied s)) a.0 q.1 in
           let z = sized_parts fl cl q.0 in
-          (omega (arith, ltb-false 31 s p.0), z.0, z.1, sym (filled_signed (entries s)) ∙ not_false (filled (signed s)) r.0)),
+          (omega (arith, ltb-false 31 s p.0), z.0, z.1, sym (filled_signed (entries s)) ∙ not-false (filled (signed s)) r.0)),
       λ w.
           ap (told L (plain L h))
           (guard_passed (ltb 31 s) (refusal 31 s) (guard L (not (sized fl cl)) (refusal 32 s) (guard L (not (filled (signed s))) (refusal 35 s) (Ok (emptied s)))) (le-ltb 31 s (omega (arith, w.0)))

@@ -1,6 +1,6 @@
 -- Head tables: where they agree, and what becomes of them when one sheet's signature is replaced.
 use Rattle.std.proofs.Common.{◌≡◌, ℕ, ◌<◌, true, false, not, eqb, List, [], ◌∷◌, Some, None, Option, sym, refl, ap, ◌∙◌, ap₂, inl, inr, arith}
-use Rattle.std.proofs.lemmas.Bool.{cases_Bool, eq-eqb, both_ways, or_parts, eqb-true, not_false}
+use Rattle.std.proofs.lemmas.Bool.{cases_Bool, eq-eqb, both_ways, or_parts, eqb-true, not-false}
 use Rattle.history.specs.Words.{updated, any_of, filled}
 use Rattle.history.specs.Language.{Heads, Signatures, head_for, differ, heads_of, Agree}
 use Rattle.history.specs.Stands.{Apart}
@@ -16,7 +16,7 @@ pub differ_false : (a b : Option ℕ) → differ a b ≡ false → a ≡ b
 differ_false None None e = refl
 differ_false None (Some b) e = let z : ◌≡◌ {A = ℕ} 0 1 = cc in absurd (omega arith)
 differ_false (Some a) None e = let z : ◌≡◌ {A = ℕ} 0 1 = cc in absurd (omega arith)
-differ_false (Some a) (Some b) e = ap Some (eqb-true a b (not_false (eqb a b) e))
+differ_false (Some a) (Some b) e = ap Some (eqb-true a b (not-false (eqb a b) e))
 
 -- heads that differ are not the same
 pub differ_true : (a b : Option ℕ) → differ a b ≡ true → a ≡ b → ⊥

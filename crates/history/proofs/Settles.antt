@@ -1,6 +1,6 @@
 -- What an accepted check makes of each sheet, from any state.
 use Rattle.std.proofs.Common.{◌≡◌, ℕ, ◌<◌, true, cond, not, ◌&&◌, eqb, List, length, take, Some, None, Ok, Err, Option, Result, sym, refl, ap, ◌∙◌, subst, ap₂, inl, inr, arith}
-use Rattle.std.proofs.lemmas.Bool.{cond-true, cond-false, cases_Bool, eq-eqb, cond_both, eqb-true, not_true, and_parts}
+use Rattle.std.proofs.lemmas.Bool.{cond-true, cond-false, cases_Bool, eq-eqb, cond_both, eqb-true, not-true, and_parts}
 use Rattle.history.specs.Words.{lowest, count_below, filled}
 use Rattle.history.specs.Language.{Fault, Verdict, Verdict.bad, Heads, heads_of, column_of, blame, Language, size}
 use Rattle.history.specs.Calls.{Call, Act.walked, outcome, Answer, Answer.checked}
@@ -37,7 +37,7 @@ module _ {Frame Def Text : Type 0} (L : Language Frame Def Text) (K : Known L) w
   fits_parts r d e =
       let a = and_parts (eqb (name d) r.name) (eqb (head d) r.head && not (filled (repeated d))) e in
       let b = and_parts (eqb (head d) r.head) (not (filled (repeated d))) a.1 in
-      (eqb-true (name d) r.name a.0, eqb-true (head d) r.head b.0, filled_none (repeated d) (not_true (filled (repeated d)) b.1))
+      (eqb-true (name d) r.name a.0, eqb-true (head d) r.head b.0, filled_none (repeated d) (not-true (filled (repeated d)) b.1))
 
   -- frames that form as their record says are judged
   again_judged : (h : Heads) (fs : List Frame) (r : Record) (d : Def) → FormsAs L r fs d → walked_again L h (form fs) r ≡ judge h d

@@ -1,11 +1,11 @@
 -- Valid by the recursion over the history is valid by its sentence.
 use Rattle.std.proofs.Common.{◌≡◌, ℕ, true, not, ◌↔◌, [], ◌∷◌, None, Ok, Err, Result, refl, ap, ◌∙◌, arith}
-use Rattle.std.proofs.lemmas.Bool.{not_true}
+use Rattle.std.proofs.lemmas.Bool.{not-true}
 use Rattle.history.specs.Words.{count_below, filled}
 use Rattle.history.specs.Language.{Fault, Language}
 use Rattle.history.specs.Calls.{Call, History, Act, Act.wrote, Act.emptied, Act.walked, Answer.refused, Answer.checked}
 use Rattle.history.specs.Plain.{fault_of, Plain, due, valid_after, after, stepped, plain, result, told}
-use Rattle.history.specs.Due.{CheckedValid, CheckedValid.just-now, CheckedValid.still}
+use Rattle.history.specs.Due.{CheckedValid, CheckedValid.just_now, CheckedValid.still}
 use Rattle.history.proofs.Words.{filled_none}
 
 module _ {Frame Def Text : Type 0} (L : Language Frame Def Text) where
@@ -31,7 +31,7 @@ module _ {Frame Def Text : Type 0} (L : Language Frame Def Text) where
   valid_step h c ih (Ok (wrote s d)) i e = let z : ◌≡◌ {A = ℕ} 0 1 = cc in absurd (omega arith)
   valid_step h c ih (Ok (emptied s)) i e = let z : ◌≡◌ {A = ℕ} 0 1 = cc in absurd (omega arith)
   valid_step h c ih (Ok walked) i e =
-      let none = filled_none (fault_of L (plain L h).entries) (not_true (filled (fault_of L (plain L h).entries)) e) in
+      let none = filled_none (fault_of L (plain L h).entries) (not-true (filled (fault_of L (plain L h).entries)) e) in
       just_now (ap (told L (plain L h)) i ∙ ap (checked (count_below 32 (due L (plain L h)))) none)
   valid_step h c ih (Err f) i e = still (ap (told L (plain L h)) i) (ih e)
 

@@ -1,5 +1,8 @@
 // The law of kept verdicts, for any language of definitions with a local judge: stated in specs/, proved in proofs/ for every such language.
 // A contract can name it of one language only, so these functions name it of a small one.
+
+#![tactic(auto)]
+
 ghost use Rattle.history.specs.Law.{Law};
 ghost use Rattle.history.specs.Example.{example, Promises};
 ghost use Rattle.history.specs.Trial.{Trial};

@@ -1,4 +1,7 @@
 // Stores of names: a stack of levels, each a table from names to values.
+
+#![tactic(auto)]
+
 pub mod buckets;
 pub mod chains;
 pub mod entry;

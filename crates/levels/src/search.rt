@@ -31,8 +31,8 @@ impl Named for Frame {
 
 // The last place of the name in the slice.
 pub fn newest<T: Named>(items: &[T], name: u16) -> Option<usize>
-    ensures result { result ≡ newest_of (map label items.now) name }
-    ensures law { Newest (map label items.now) name result }
+    ensures result { result ≡ newest_of (map T.Named.label items.now) name }
+    ensures law { Newest (map T.Named.label items.now) name result }
 {
     for i in (0..items.len()).rev() {
         if items[i].name() == name {

@@ -1,4 +1,7 @@
 // Code above a store of names, proved once for every store.
+
+#![tactic(auto)]
+
 ghost use Rattle.std.specs.Prelude.{◌≡◌, ◌≤◌, Some, Ok, ◌≢◌};
 ghost use Rattle.levels.specs.Store.{looked, or_else};
 ghost use Rattle.levels_clients.specs.Two.{both, two_answer, two_left};

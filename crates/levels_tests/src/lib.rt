@@ -1,4 +1,7 @@
 // A third store of names, and tests of all three.
+
+#![tactic(auto)]
+
 pub mod single;
 #[cfg(test)]
 mod tests;

@@ -2,7 +2,7 @@
 use Rattle.std.proofs.Common.{◌≡◌, ℕ, ◌<◌, ◌≤◌, Bool, false, not, ◌||◌, ltb, ◌⊎◌, List, map, length, get_or, is_some, Some, None, Ok, Err, Option, Result, sym, refl, ap, ◌∙◌, ap₂, inl, inr}
 use Rattle.std.proofs.lemmas.List.{length-map}
 use Rattle.std.proofs.lemmas.List.FromFn.{fill_by_all}
-use Rattle.std.proofs.lemmas.Bool.{or_from, or_left, or_right, lt-ltb, le-ltb, not_true, not_false}
+use Rattle.std.proofs.lemmas.Bool.{or_from, or_left, or_right, lt-ltb, le-ltb, not-true, not-false}
 use Rattle.syntax.specs.declared.frame.Frame.{Frame}
 use Rattle.levels.specs.Store.{Store}
 use Rattle.history.specs.Words.{lowest, count_below, map_some, filled}
@@ -50,8 +50,8 @@ module _ (g : Signatures) (fl cl a b : ℕ) where
 
 -- a book is valid where there is no fault to tell
 pub valid_told : (o : Option Refusal) (v : Bool) → is_some o ≡ not v → v ≡ not (filled (map_some told o))
-valid_told (Some x) v e = not_true v (sym e)
-valid_told None v e = not_false v (sym e)
+valid_told (Some x) v e = not-true v (sym e)
+valid_told None v e = not-false v (sym e)
 
 -- an accepted check: the records and the column after it
 module _ (rs rs' : List Record) (v v' : Bool) (fs : List Frame) (k k' : List ℕ) (n : ℕ) (o : Option Fault)

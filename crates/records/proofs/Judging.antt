@@ -1,6 +1,6 @@
 -- The law's verdict on a sheet by the test that an examination makes.
 use Rattle.std.proofs.Common.{◌≡◌, ℕ, Bool, true, false, cond, not, ◌&&◌, T, eqb, List, Some, None, Ok, Err, Option, Result, sym, refl, ap, ◌∙◌, subst}
-use Rattle.std.proofs.lemmas.Bool.{and_parts, and_from, eqb-true, eq-eqb, not_true, cond-false}
+use Rattle.std.proofs.lemmas.Bool.{and_parts, and_from, eqb-true, eq-eqb, not-true, cond-false}
 use Rattle.syntax.specs.declared.frame.Frame.{Frame}
 use Rattle.rules.specs.Heads.{Head, head, Levels}
 use Rattle.rules.specs.Sequences.{Distinct}
@@ -64,7 +64,7 @@ fits_recorded r d = same_tests (fits cpp r d) (recorded d.frames r.name r.head) 
           sheet = has_form d;
           named = eqb-true (name_of d) r.name a.0;
           headed = head_packed d ∙ eqb-true (head_number d) r.head b.0;
-          apart = once_distinct d (filled_none (repeated_in d) (not_true (filled (repeated_in d)) b.1));
+          apart = once_distinct d (filled_none (repeated_in d) (not-true (filled (repeated_in d)) b.1));
         })
 
     back : recorded d.frames r.name r.head ≡ true → fits cpp r d ≡ true

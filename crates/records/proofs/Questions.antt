@@ -1,6 +1,6 @@
 -- A type reader and the questions to it: their tests as the law's answers, and what every history makes of these.
 use Rattle.std.proofs.Common.{◌≡◌, ℕ, suc, ◌+◌, ◌*◌, ◌<◌, ◌≤◌, Bool, true, false, cond, not, ◌&&◌, eqb, ltb, ◌⊎◌, List, length, get_or, Some, None, Ok, Err, Option, Result, sym, refl, ap, ◌∙◌, subst, ap₂, inl, inr, arith}
-use Rattle.std.proofs.lemmas.Bool.{cond-true, cond-false, cond_both, lt-ltb, le-ltb, eq-eqb, ne_eqb, and_from, and_left, and_right, not_true, not_false}
+use Rattle.std.proofs.lemmas.Bool.{cond-true, cond-false, cond_both, lt-ltb, le-ltb, eq-eqb, ne_eqb, and_from, and_left, and_right, not-true, not-false}
 use Rattle.std.proofs.lemmas.List.{get_or_past, get_or_default}
 use Rattle.syntax.specs.declared.frame.Frame.{Frame}
 use Rattle.syntax.specs.Writing.{blank}
@@ -63,7 +63,7 @@ module _ (rs : List Record) (v : Bool) (f : List Frame) (k : List ℕ) (s p : �
   -- an empty sheet has no types
   pub asked_empty : (r : Record) → r ≡ get_or rs s empty → s ≤ 31 → not r.filled ≡ true → Answered None
   asked_empty r is l e =
-      asked_row None l (ap (type_asked cpp (state_of rs v f k) s p) (empty_row rs s (ap (λ x. x.filled) (sym is) ∙ not_true r.filled e)))
+      asked_row None l (ap (type_asked cpp (state_of rs v f k) s p) (empty_row rs s (ap (λ x. x.filled) (sym is) ∙ not-true r.filled e)))
 
   -- a filled one those of its places up to the end
   asked_filled : (o : Option ℕ) → s ≤ 31 → (get_or rs s empty).filled ≡ true → type_asked cpp (state_of rs v f k) s p (Some (row_of (get_or rs s empty))) ≡ o → Answered o
@@ -75,7 +75,7 @@ module _ (rs : List Record) (v : Bool) (f : List Frame) (k : List ℕ) (s p : �
       let end = (get_or rs s empty).end in
       let spoken = expression (get_or (part s f) p blank) in
       let past : suc end ≤ p = subst (λ x. x.end < p) is m in
-      asked_filled None l (ap (λ x. x.filled) (sym is) ∙ not_false r.filled e)
+      asked_filled None l (ap (λ x. x.filled) (sym is) ∙ not-false r.filled e)
       (cond-false (ltb p (suc end) && spoken) (as_type (get_or (part s k) p 0)) None (and_left (ltb p (suc end)) spoken (le-ltb p (suc end) past)))
 
 -- a question that names a place of a filled sheet, up to its end
@@ -90,7 +90,7 @@ pub within : (rs : List Record) (v : Bool) (f : List Frame) (k : List ℕ) (s p 
 within rs v f k s p r e l t b m =
     record {
       sheet = l;
-      filled = ap (λ x. x.filled) (sym e) ∙ not_false r.filled t;
+      filled = ap (λ x. x.filled) (sym e) ∙ not-false r.filled t;
       below = subst (λ x. p ≤ x.end) e b;
       short = subst (λ x. x.end < 256) e m;
     }

@@ -1,4 +1,7 @@
 // The typing rules of CPP and the walk that decides them: definitions and theorems, with no code of their own.
+
+#![tactic(auto)]
+
 pub mod theorems;
 pub mod violation;
 

@@ -1,4 +1,7 @@
 // The syntax of CPP: frames, the table of kinds, trees and their linear writing, and the form of a sheet.
+
+#![tactic(auto)]
+
 pub mod examples;
 pub mod fault;
 pub mod frame;

@@ -1,4 +1,7 @@
 // Runs the checker on the cases of data/ and compares what it says with what it should.
+
+#![tactic(auto)]
+
 use driver::run;
 use std::{fs, io};
 

@@ -1,4 +1,7 @@
 // The walk over one sheet: its frames in order, each judged with the heads and the levels of variables.
+
+#![tactic(auto)]
+
 pub mod examining;
 mod expression;
 mod machine;

@@ -1,4 +1,7 @@
 // Reads a book's text from standard input and says what came of it.
+
+#![tactic(auto)]
+
 ghost use Rattle.std.specs.Prelude.{◌≤◌, length, IfOk};
 
 use driver::run;

@@ -13,13 +13,13 @@ pub loop-later-preserved : goal.loop-later-preserved
 loop-later-preserved c =
     let h = c.args.head in
     let n : c.count-n.result ≡ count_of h = c.count-n.ensures.result ∙ sym (length_parameters h) in
-    nearer_more (count_of h) (h / 256) c.loop-later.digits (count_of h - 1 - c.args.i) c.loop-later.-later
+    nearer_more (count_of h) (h / 256) c.loop-later.digits (count_of h - 1 - c.args.i) c.loop-later._later
     (omega (arith, n, c.loop-later-test.true)) (omega (arith, n, c.if-i-n.false)) c.loop-later.invariant
 
 pub returns : goal.returns
 returns c =
     let h = c.args.head in
     let n : c.count-n.result ≡ count_of h = c.count-n.ensures.result ∙ sym (length_parameters h) in
-    let near = nearer_all (count_of h) (h / 256) c.loop-later.digits (count_of h - 1 - c.args.i) c.loop-later.-later
-    (omega (arith, n, c.loop-later-test.false, c.loop-later.auto.-later-end)) (omega (arith, n, c.if-i-n.false)) c.loop-later.invariant in
+    let near = nearer_all (count_of h) (h / 256) c.loop-later.digits (count_of h - 1 - c.args.i) c.loop-later._later
+    (omega (arith, n, c.loop-later-test.false, c.loop-later.auto._later-end)) (omega (arith, n, c.if-i-n.false)) c.loop-later.invariant in
     record { result = near ∙ nth_parameters h c.args.i (omega (arith, n, c.if-i-n.false)) }

@@ -3,13 +3,13 @@ use Rattle.heads.specs.Heads.{pushed, extended, count_of}
 use Rattle.heads.proofs.Pushing.{pushes}
 use Rattle.heads.proofs.push.Goals as goal
 
-pub returns-then-count-ge-MOST-PARAMETERS : goal.returns-then-count-ge-MOST-PARAMETERS
-returns-then-count-ge-MOST-PARAMETERS c =
+pub returns-then-count-ge-MOST_PARAMETERS : goal.returns-then-count-ge-MOST_PARAMETERS
+returns-then-count-ge-MOST_PARAMETERS c =
     let e : None ≡ pushed c.args.head c.args.code = search rules in
     record { result = e; law = pushes c.args.head c.args.code None e }
 
-pub returns-then-head-ge-WITH-ROOM : goal.returns-then-head-ge-WITH-ROOM
-returns-then-head-ge-WITH-ROOM c =
+pub returns-then-head-ge-WITH_ROOM : goal.returns-then-head-ge-WITH_ROOM
+returns-then-head-ge-WITH_ROOM c =
     let e : None ≡ pushed c.args.head c.args.code = search rules in
     record { result = e; law = pushes c.args.head c.args.code None e }
 

@@ -8,11 +8,11 @@ pub loop-b-init : goal.loop-b-init
 unfolding hexes
 loop-b-init c = (omega arith, refl)
 
-pub overflow-mul-n : goal.overflow-mul-n
-overflow-mul-n c = omega (arith, pow_bound c.loop-b.n c.loop-b.b-index 7 c.loop-b.invariant.0 (omega arith))
+pub overflow_mul-n : goal.overflow_mul-n
+overflow_mul-n c = omega (arith, pow_bound c.loop-b.n c.loop-b.b-index 7 c.loop-b.invariant.0 (omega arith))
 
-pub overflow-add-n : goal.overflow-add-n
-overflow-add-n c = omega (arith, c.in-Some.ensures.0, pow_bound c.loop-b.n c.loop-b.b-index 7 c.loop-b.invariant.0 (omega arith))
+pub overflow_add-n : goal.overflow_add-n
+overflow_add-n c = omega (arith, c.in-Some.ensures.0, pow_bound c.loop-b.n c.loop-b.b-index 7 c.loop-b.invariant.0 (omega arith))
 
 pub returns-in-None : goal.returns-in-None
 returns-in-None c =

@@ -8,7 +8,7 @@ use Rattle.codec.proofs.text.write.Goals as goal
 
 pub loop-i-preserved : goal.loop-i-preserved
 loop-i-preserved c =
-    let p = c.put-line.ensures in
+    let p = c.put_line.ensures in
     let h = c.loop-i.invariant in
     let z : Frame = record { kind = 0; t = 0; name = 0; load = 0 } in
     let m = line_more c.args.text.now c.args.frames.now c.loop-i.i z (omega arith) (omega arith) in

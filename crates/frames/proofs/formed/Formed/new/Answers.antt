@@ -3,9 +3,9 @@ use Rattle.syntax.specs.Form.{step}
 use Rattle.syntax.specs.Writing.{written}
 use Rattle.frames.proofs.formed.Formed.new.Goals as goal
 
-pub invariant-of-result : goal.invariant-of-result
+pub invariant_of-result : goal.invariant_of-result
 unfolding step
-invariant-of-result c = (refl, (omega arith, (refl, (refl, tt))))
+invariant_of-result c = record { full = refl; within = omega arith; formed = refl; rest = refl }
 
 pub returns : goal.returns
 unfolding written

@@ -6,13 +6,13 @@ use Rattle.frames.proofs.formed.forming.fill.Goals as goal
 pub padded-sheet-requires : goal.padded-sheet-requires
 padded-sheet-requires c = length_accepted c.args.frames.now c.requires
 
-pub invariant-of-into : goal.invariant-of-into
-invariant-of-into c =
+pub invariant_of-into : goal.invariant_of-into
+invariant_of-into c =
     let fs = c.args.frames.now in
     let s = c.padded-sheet.result in
     let is = c.padded-sheet.ensures in
     let n = length_accepted fs c.requires in
-    (length_padded fs s n is, (n, (formed_padded fs s n is c.requires, (drop_padded fs s n is, tt))))
+    record { full = length_padded fs s n is; within = n; formed = formed_padded fs s n is c.requires; rest = drop_padded fs s n is }
 
 pub returns : goal.returns
 returns c =

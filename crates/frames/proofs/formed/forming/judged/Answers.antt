@@ -14,11 +14,11 @@ returns-then-frames-gt-LONGEST c =
     let d : Refuses (forms fs) TooLong = record { same = forms_long fs c.if-frames-gt-LONGEST.true; layer = refl; sheet = refl } in
     record { result = d; law = lawful_refusal fs TooLong d.same }
 
-pub returns-in-err-take-frame : goal.returns-in-err-take-frame
-returns-in-err-take-frame c =
+pub returns-in_err-take_frame : goal.returns-in_err-take_frame
+returns-in_err-take_frame c =
     let fs = c.args.frames.now in
-    let p = err_from_is_err_and c.from-residual.result c.from-residual.ensures.1 in
-    let d = c.in-err-take-frame.ensures.result.0 in
+    let p = err_from_is_err_and c.from_residual.result c.from_residual.ensures.1 in
+    let d = c.in_err-take_frame.ensures.result.0 in
     let stop = run_stop fs c.loop-i.i (state_of c.loop-i.m) blank _ _ c.loop-i-test.true d.same in
     let v = forms_short fs c.if-frames-gt-LONGEST.false ∙ sym c.loop-i.invariant.1 ∙ stop in
     let r : Refuses (forms fs) _ = record { same = v; layer = d.layer; sheet = d.sheet } in
@@ -26,7 +26,7 @@ returns-in-err-take-frame c =
 
 pub loop-i-preserved : goal.loop-i-preserved
 loop-i-preserved c =
-    let h = c.in-ok-take-frame.ensures in (
+    let h = c.in_ok-take_frame.ensures in (
       omega (arith, h.bound),
       sym (run_more c.args.frames.now c.loop-i.i (state_of c.loop-i.m) blank _ c.loop-i-test.true h.result) ∙ c.loop-i.invariant.1,
     )

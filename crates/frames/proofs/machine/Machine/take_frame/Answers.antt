@@ -12,8 +12,8 @@ returns-in-Ended c =
 
 pub returns-in-None : goal.returns-in-None
 returns-in-None c =
-    let g = not_ended c.args.self.now.stage c.in-default.not-Ended in
-    let e = sym c.in-None.is ∙ c.row-of.ensures in
+    let g = not_ended c.args.self.now.stage c.in_default.not-Ended in
+    let e = sym c.in-None.is ∙ c.row_of.ensures in
     record {
       result = (record { same = step_unknown c.args.place (state_of c.args.self.now) c.args.f g e; layer = refl; sheet = refl }, refl);
       bound = omega arith;
@@ -21,8 +21,8 @@ returns-in-None c =
 
 pub returns-then-not-suits : goal.returns-then-not-suits
 returns-then-not-suits c =
-    let g = not_ended c.args.self.now.stage c.in-default.not-Ended in
-    let e = sym c.in-Some.is ∙ c.row-of.ensures in
+    let g = not_ended c.args.self.now.stage c.in_default.not-Ended in
+    let e = sym c.in-Some.is ∙ c.row_of.ensures in
     record {
       result = (record { same = step_unfit c.args.place (state_of c.args.self.now) c.args.f g c.in-Some.row e (sym c.if-not-suits.ensures); layer = refl; sheet = refl }, refl);
       bound = omega arith;
@@ -30,10 +30,10 @@ returns-then-not-suits c =
 
 pub returns-else-not-suits : goal.returns-else-not-suits
 returns-else-not-suits c =
-    let g = not_ended c.args.self.now.stage c.in-default.not-Ended in
-    let e = sym c.in-Some.is ∙ c.row-of.ensures in
+    let g = not_ended c.args.self.now.stage c.in_default.not-Ended in
+    let e = sym c.in-Some.is ∙ c.row_of.ensures in
     let w = step_fit c.args.place (state_of c.args.self.now) c.args.f g c.in-Some.row e (sym c.if-not-suits.ensures) in
     record {
-      result = subst (λ w. Does w c.args.self.now c.allow-role.new.self c.allow-role.result) (sym w) c.allow-role.ensures.result;
-      bound = c.allow-role.ensures.bound;
+      result = subst (λ w. Does w c.args.self.now c.allow_role.new.self c.allow_role.result) (sym w) c.allow_role.ensures.result;
+      bound = c.allow_role.ensures.bound;
     }

@@ -4,8 +4,10 @@ use Rattle.levels.proofs.Storing.{store_new}
 use Rattle.levels.proofs.Chaining.{linked_none}
 use Rattle.levels.proofs.chains.Chains.new.Goals as goal
 
-pub invariant-of-result : goal.invariant-of-result
-invariant-of-result g c = linked_none c.usable.result.now c.new-2.result.heads c.new.result.count c.new-2.ensures.result (ap (λ y. y.count) c.new.ensures.result)
+pub invariant_of-result : goal.invariant_of-result
+invariant_of-result g c =
+    let l = linked_none c.usable.result.now c.new-2.result.heads c.new.result.count c.new-2.ensures.result (ap (λ y. y.count) c.new.ensures.result) in
+    record { within = l.0; threaded = l.1.0; headed = l.1.1.0 }
 
 pub returns : goal.returns
 returns g c =

@@ -4,10 +4,11 @@ use Rattle.levels.proofs.Storing.{count_closed}
 use Rattle.levels.proofs.Chaining.{linked_same}
 use Rattle.levels.proofs.chains.ChainsDeclaring.leave.Goals as goal
 
-pub invariant-of-self : goal.invariant-of-self
-invariant-of-self g c =
+pub invariant_of-self : goal.invariant_of-self
+invariant_of-self g c =
     let p = c.loop-self.self in
-    linked_same p.entries.now p.buckets.heads p.levels.count c.leave.new.self.count
+    let l = linked_same p.entries.now p.buckets.heads p.levels.count c.leave.new.self.count
     (count_closed (layout p.levels) (layout c.leave.new.self) c.in-Some.start p.levels.sound c.leave.ensures.leaves
     (c.in-Some.ensures.result ∙ ap top_of (sym c.loop-self.invariant.0)) (omega (arith, c.loop-self-test.false, c.count.ensures.result)))
-    (p.within, (p.threaded, (p.headed, tt)))
+    (p.within, (p.threaded, (p.headed, tt))) in
+    record { within = l.0; threaded = l.1.0; headed = l.1.1.0 }

@@ -8,4 +8,4 @@ pub returns : goal.returns
 returns g c =
     let t = c.args.self.now.levels in
     let es = c.args.self.now.entries.now in
-    record { result = c.value-at.ensures.result ∙ ap (value_at es) c.place-of.ensures.result ∙ looked_by (layout t) es t.sound c.args.name }
+    record { result = c.value_at.ensures.result ∙ ap (value_at es) c.place_of.ensures.result ∙ looked_by (layout t) es t.sound c.args.name }

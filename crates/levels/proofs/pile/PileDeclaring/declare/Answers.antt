@@ -4,13 +4,13 @@ use Rattle.levels.specs.Layout.{layout}
 use Rattle.levels.proofs.Declaring.{Placed, declare_not, declare_placed, declare_made}
 use Rattle.levels.proofs.pile.PileDeclaring.declare.Goals as goal
 
-pub returns-in-err-place : goal.returns-in-err-place
-returns-in-err-place g c =
+pub returns-in_err-place : goal.returns-in_err-place
+returns-in_err-place g c =
     let p = c.args.self.now in
-    let e = err_from_is_err_and c.from-residual.result c.from-residual.ensures.1 in
+    let e = err_from_is_err_and c.from_residual.result c.from_residual.ensures.1 in
     let d = declare_not (layout p.levels) p.entries.now p.levels.sound c.args.name c.args.value
     c.here-repeated.result c.capacity-capacity.result c.here-repeated.ensures.result c.capacity-capacity.ensures.result
-    c.in-err-place.field-0.0 c.in-err-place.ensures.result in
+    c.in_err-place.field-0.0 c.in_err-place.ensures.result in
     record { result = e.1 ∙ ap Err e.2 ∙ d.result; leaves = d.leaves }
 
 pub bounds-self-place : goal.bounds-self-place
@@ -18,23 +18,23 @@ bounds-self-place g c =
     let p = c.args.self.now in
     (declare_placed (layout p.levels) p.entries.now p.levels.sound c.args.name c.args.value
     c.here-repeated.result c.capacity-capacity.result c.here-repeated.ensures.result c.capacity-capacity.ensures.result
-    c.in-ok-place.place c.in-ok-place.ensures.result).within
+    c.in_ok-place.place c.in_ok-place.ensures.result).within
 
-pub offset-bounds-self-place : goal.offset-bounds-self-place
-offset-bounds-self-place g c = let h : c.in-ok-place.place < length c.args.self.now.entries.now = bounds-self-place g c in search rules
+pub offset_bounds-self-place : goal.offset_bounds-self-place
+offset_bounds-self-place g c = let h : c.in_ok-place.place < length c.args.self.now.entries.now = bounds-self-place g c in search rules
 
 pub grow-requires : goal.grow-requires
 grow-requires g c =
     let p = c.args.self.now in
     let at = declare_placed (layout p.levels) p.entries.now p.levels.sound c.args.name c.args.value
     c.here-repeated.result c.capacity-capacity.result c.here-repeated.ensures.result c.capacity-capacity.ensures.result
-    c.in-ok-place.place c.in-ok-place.ensures.result in
-    record { level = at.level; room = omega (arith, at.next, at.within, c.capacity-capacity.type-inv, c.capacity-capacity.ensures.result) }
+    c.in_ok-place.place c.in_ok-place.ensures.result in
+    record { level = at.level; room = omega (arith, at.next, at.within, c.capacity-capacity.type_inv, c.capacity-capacity.ensures.result) }
 
 pub returns : goal.returns
 returns g c =
     let p = c.args.self.now in
     let d = declare_made (layout p.levels) p.entries.now p.levels.sound c.args.name c.args.value
     c.here-repeated.result c.capacity-capacity.result c.here-repeated.ensures.result c.capacity-capacity.ensures.result
-    (layout c.grow.new.self) c.in-ok-place.place 0 c.grow.ensures.leaves c.in-ok-place.ensures.result in
+    (layout c.grow.new.self) c.in_ok-place.place 0 c.grow.ensures.leaves c.in_ok-place.ensures.result in
     record { result = d.result; leaves = d.leaves }

@@ -7,4 +7,4 @@ pub returns : goal.returns
 returns g c =
     let t = c.args.self.now.levels in
     let es = c.args.self.now.entries.now in
-    record { result = c.on-top.ensures.result ∙ ap (on_top (layout t).starts) c.place-of.ensures.result ∙ stands_by (layout t) es t.sound c.args.name }
+    record { result = c.on_top.ensures.result ∙ ap (on_top (layout t).starts) c.place_of.ensures.result ∙ stands_by (layout t) es t.sound c.args.name }

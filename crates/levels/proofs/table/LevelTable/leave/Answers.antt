@@ -4,10 +4,10 @@ use Rattle.levels.proofs.Starting.{ordered_closed}
 use Rattle.levels.proofs.Tabling.{none_to_leave_not, closed_top}
 use Rattle.levels.proofs.table.LevelTable.leave.Goals as goal
 
-pub invariant-of-self : goal.invariant-of-self
-invariant-of-self c =
+pub invariant_of-self : goal.invariant_of-self
+invariant_of-self c =
     let t = c.args.self.now in
-    (t.size, (omega arith, (ordered_closed t.starts t.depth t.count t.sound (omega arith) (omega arith), tt)))
+    record { size = t.size; shallow = omega arith; sound = ordered_closed t.starts t.depth t.count t.sound (omega arith) (omega arith) }
 
 pub returns : goal.returns
 returns c =
