@@ -15,5 +15,5 @@ loop-piece-preserved c =
 
 pub returns : goal.returns
 returns c =
-    let q = c.in-default.ensures.result in
+    let q = c.in_default.ensures.result in
     record { result = (omega arith, ends_here _ _ _ _ c.loop-piece.invariant.2 q) }

@@ -5,15 +5,15 @@ use Rattle.driver.proofs.running.take_piece.Goals as goal
 
 pub returns : goal.returns
 returns c =
-    let t = taken_whole c.args.piece.now _ c.read.new.frames refl c.in-ok-n.n c.in-ok-n.ensures.does c.in-ok-form.ensures.result in
+    let t = taken_whole c.args.piece.now _ c.read.new.frames refl c.in_ok-n.n c.in_ok-n.ensures.does c.in_ok-form.ensures.result in
     record { result = t; bound = taken_few _ _ t }
 
-pub returns-in-err-n : goal.returns-in-err-n
-returns-in-err-n c =
-    let p = err_from_is_err_and c.from-residual.result c.from-residual.ensures.1 in
-    rw (p.1, p.2) (record { result = taken_unread c.args.piece.now _ c.read.new.frames refl _ c.in-err-n.ensures.does; bound = tt })
+pub returns-in_err-n : goal.returns-in_err-n
+returns-in_err-n c =
+    let p = err_from_is_err_and c.from_residual.result c.from_residual.ensures.1 in
+    rw (p.1, p.2) (record { result = taken_unread c.args.piece.now _ c.read.new.frames refl _ c.in_err-n.ensures.does; bound = tt })
 
-pub returns-in-err-form : goal.returns-in-err-form
-returns-in-err-form c =
-    let p = err_from_is_err_and c.from-residual-in-err-form.result c.from-residual-in-err-form.ensures.1 in
-    rw (p.1, p.2) (record { result = taken_unformed c.args.piece.now _ c.read.new.frames refl c.in-ok-n.n _ c.in-ok-n.ensures.does c.in-err-form.ensures.result; bound = tt })
+pub returns-in_err-form : goal.returns-in_err-form
+returns-in_err-form c =
+    let p = err_from_is_err_and c.from_residual-in_err-form.result c.from_residual-in_err-form.ensures.1 in
+    rw (p.1, p.2) (record { result = taken_unformed c.args.piece.now _ c.read.new.frames refl c.in_ok-n.n _ c.in_ok-n.ensures.does c.in_err-form.ensures.result; bound = tt })

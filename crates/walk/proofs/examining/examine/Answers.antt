@@ -14,7 +14,7 @@ returns g c =
     let b = recorded fs c.args.name c.args.head in
     let n : length col ≡ 256 = c.if-column-ne-PLACES.false in
     let l : 256 ≤ store.capacity = omega (arith, c.capacity.ensures.result, c.if-capacity-lt-ROOM.false) in
-    let t : b ≡ true = sym c.if-not-as-recorded.ensures in
+    let t : b ≡ true = sym c.if-not-as_recorded.ensures in
     let e = c.run.ensures in
     record {
       result = ap Ok e.result ∙ walked.examined_walked (length col) store.capacity b o n l t;

@@ -14,7 +14,7 @@ returns g c =
     let os = types_of m.operands in
     let u = things_of m.things in
     let a = subst (Awaits i) c.in-Names.is c.requires.awaits in
-    let e = c.await-names.ensures in
+    let e = c.await_names.ensures in
     record {
       does =
           ap (λ p. named os ls u c.args.frame.name (coming_at i u p fs)) c.in-Names.is

@@ -6,11 +6,11 @@ use Rattle.walk.specs.Stacks.{down, types_of, things_of}
 use Rattle.walk.proofs.Downs as downs
 use Rattle.walk.proofs.operands.Operands.at.Goals as goal
 
-pub overflow-sub-result : goal.overflow-sub-result
-overflow-sub-result c = let l = downs.length_down 0 c.args.self.now.types c.args.self.now.ready in omega arith
+pub overflow_sub-result : goal.overflow_sub-result
+overflow_sub-result c = let l = downs.length_down 0 c.args.self.now.types c.args.self.now.ready in omega arith
 
-pub overflow-sub-result-2 : goal.overflow-sub-result-2
-overflow-sub-result-2 c = let l = downs.length_down 0 c.args.self.now.types c.args.self.now.ready in omega arith
+pub overflow_sub-result-2 : goal.overflow_sub-result-2
+overflow_sub-result-2 c = let l = downs.length_down 0 c.args.self.now.types c.args.self.now.ready in omega arith
 
 pub returns : goal.returns
 returns c =

@@ -5,8 +5,8 @@ use Rattle.walk.specs.Stacks.{down, types_of, things_of}
 use Rattle.walk.proofs.Downs as downs
 use Rattle.walk.proofs.operands.Operands.pop.Goals as goal
 
-pub overflow-sub-self : goal.overflow-sub-self
-overflow-sub-self c = let l = downs.length_down 0 c.args.self.now.types c.args.self.now.ready in omega arith
+pub overflow_sub-self : goal.overflow_sub-self
+overflow_sub-self c = let l = downs.length_down 0 c.args.self.now.types c.args.self.now.ready in omega arith
 
 pub returns : goal.returns
 returns c =

@@ -13,5 +13,5 @@ returns-then-self-eq0 c = sym (downs.alone_none c.args.self.now.stack c.args.sel
 pub returns-in-Block : goal.returns-in-Block
 returns-in-Block c = sym (downs.alone_block c.args.self.now.stack c.args.self.now.depth (omega arith) c.in-Block.is)
 
-pub returns-in-default : goal.returns-in-default
-returns-in-default c = sym (downs.alone_other c.args.self.now.stack c.args.self.now.depth (omega arith) c.in-default.not-Block)
+pub returns-in_default : goal.returns-in_default
+returns-in_default c = sym (downs.alone_other c.args.self.now.stack c.args.self.now.depth (omega arith) c.in_default.not-Block)

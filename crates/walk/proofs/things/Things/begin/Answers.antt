@@ -10,12 +10,12 @@ use Rattle.walk.proofs.things.Things.begin.Goals as goal
 pub bounds-self-self : goal.bounds-self-self
 bounds-self-self c = let l = downs.length_down Block c.args.self.now.stack c.args.self.now.depth in omega (arith, c.args.self.now.room)
 
-pub invariant-of-self : goal.invariant-of-self
-invariant-of-self c =
+pub invariant_of-self : goal.invariant_of-self
+invariant_of-self c =
     let l = downs.length_down Block c.args.self.now.stack c.args.self.now.depth in
     let s = length-set c.args.self.now.stack c.args.self.now.depth c.args.x in
     let r = c.args.self.now.room in
-    (omega arith, (omega arith, tt))
+    record { deep = omega arith; room = omega arith }
 
 pub returns : goal.returns
 returns c =

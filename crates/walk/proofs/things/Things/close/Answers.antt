@@ -7,8 +7,8 @@ use Rattle.walk.proofs.Downs as downs
 use Rattle.syntax.specs.declared.stages.Unfinished.TheVariants.{Block, Loop, Choice}
 use Rattle.walk.proofs.things.Things.close.Goals as goal
 
-pub overflow-sub-self : goal.overflow-sub-self
-overflow-sub-self c = let l = downs.length_down Block c.args.self.now.stack c.args.self.now.depth in omega arith
+pub overflow_sub-self : goal.overflow_sub-self
+overflow_sub-self c = let l = downs.length_down Block c.args.self.now.stack c.args.self.now.depth in omega arith
 
 pub returns : goal.returns
 returns c =
