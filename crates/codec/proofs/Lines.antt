@@ -1,10 +1,10 @@
 -- A line taken apart and put together.
-use Rattle.std.proofs.Common.{◌≡◌, ℕ, zero, suc, ◌+◌, ◌*◌, ◌<◌, ◌≤◌, List, [], ◌∷◌, ◌++◌, length, get_or, take, drop, set, sym, refl, ap, ◌∙◌, subst, arith}
+use Rattle.std.proofs.Common.{◌≡◌, ℕ, ◌+◌, ◌*◌, ◌≤◌, List, [], ◌∷◌, ◌++◌, length, get_or, take, drop, set, sym, refl, ap, ◌∙◌, arith}
 use Rattle.std.proofs.lemmas.List.{append_assoc, length-append, length-drop, drop_at, take_at, drop-drop, drop_more, get_or-drop, take-append-drop, take-append-le, length_push, get_or_push}
 use lib.Seq.{paste}
 use Rattle.std.proofs.lemmas.List.Edits.{paste-paste, paste_more}
 use Rattle.syntax.specs.declared.frame.Frame.{Frame}
-use Rattle.codec.specs.Text.{digit, hexes, line_of, text_of}
+use Rattle.codec.specs.Text.{hexes, line_of, text_of}
 use Rattle.codec.proofs.Hex.{length_hexes}
 
 -- the text begins with the line of f

@@ -8,9 +8,9 @@ use Rattle.syntax.specs.declared.frame.Frame.{Frame}
 use Rattle.syntax.specs.declared.fault.Fault.{Fault}
 use Rattle.codec.specs.Text.{digit, hexes, line_of, text_of, Fit}
 use Rattle.syntax.specs.declared.fault.Fault.TheVariants.{BadLine, FramesFull, TextShort, TooLong, UnknownKind, BadField, NotAllowed, TooDeep, NoEnd, AfterEnd}
-use Rattle.syntax.specs.Faults.{number, layer, sheet, place}
+use Rattle.syntax.specs.Faults.{number, place}
 use Rattle.codec.specs.Codec.{NoLine, Begun, Stops, Reads, Only, Writes, Written, Inverse}
-use Rattle.codec.proofs.Lines.{Parts, apart, length_text, length_line}
+use Rattle.codec.proofs.Lines.{apart, length_text, length_line}
 
 digit_same : (a b : ℕ) → a < 16 → b < 16 → digit a ≡ digit b → a ≡ b
 digit_same a b h k e = grind (arith, nat_tests)

@@ -1,6 +1,6 @@
 -- The turns of the loops of `read` and `write`.
-use Rattle.std.proofs.Common.{◌≡◌, ℕ, zero, suc, ◌+◌, ◌*◌, ◌/◌, ◌%◌, ◌<◌, ◌≤◌, List, [], ◌∷◌, ◌++◌, length, get_or, take, drop, set, sym, refl, ap, ◌∙◌, subst, arith}
-use Rattle.std.proofs.lemmas.List.{append_assoc, length-append, drop_at, take_at, drop-drop, take_more, take_more_set, drop-set-lt, flat_map_more, append-nil, drop_all, take-take, length-take-le, length-drop, length-set, take_all, take-append-drop, set_at}
+use Rattle.std.proofs.Common.{◌≡◌, ℕ, ◌+◌, ◌*◌, ◌/◌, ◌%◌, ◌<◌, ◌≤◌, List, [], ◌∷◌, ◌++◌, length, get_or, take, drop, set, sym, ap, ◌∙◌, subst, arith}
+use Rattle.std.proofs.lemmas.List.{append_assoc, drop_at, take_at, drop-drop, take_more, take_more_set, drop-set-lt, flat_map_more, append-nil, drop_all, length-take-le, length-set, take_all, take-append-drop, set_at}
 use Rattle.std.proofs.ByRecursion.{All-push}
 use lib.Seq.{paste}
 use Rattle.std.specs.List.{AllByRecursion as All}

@@ -1,8 +1,8 @@
 -- The pieces of an input are the input, none is empty, and each but the last ends with its first line that begins 03.
-use Rattle.std.proofs.Common.{◌≡◌, ℕ, ◌+◌, Bool, true, false, cond, eqb, List, [], ◌∷◌, ◌++◌, length, sym, refl, ap, ◌∙◌, subst, arith}
+use Rattle.std.proofs.Common.{◌≡◌, ℕ, Bool, true, false, cond, eqb, List, [], ◌∷◌, ◌++◌, length, sym, refl, ap, ◌∙◌, arith}
 use Rattle.std.specs.List.{AllByRecursion as All}
 use Rattle.std.proofs.lemmas.List.{append_assoc}
-use Rattle.driver.specs.Pieces.{lines, onto, ends_sheet, before, cut_after, pieces, together, EndsWithFirst, ButLast, Cuts, Cutting}
+use Rattle.driver.specs.Pieces.{lines, onto, ends_sheet, before, cut_after, pieces, together, EndsWithFirst, ButLast, Cutting}
 
 -- one line and no more; one whose bytes end there, whatever follows
 abbrev Line : List ℕ → Type 0

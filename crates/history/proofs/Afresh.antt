@@ -7,7 +7,6 @@ use Rattle.history.specs.Words.{updated, count_below, any_of, map_some, filled}
 use Rattle.history.specs.Language.{head_for, Language, Entries, signature, signatures}
 use Rattle.history.specs.Calls.{refusal, fresh_refusal, Call.put, History, Act.wrote, guard, unless_repeated, elsewhere, outcome}
 use Rattle.history.specs.Plain.{entries_after, touches, due, walks, after, stepped, plain, result, told, AllDone, put_of, puts_of}
-use Rattle.history.specs.Areas.{part}
 use Rattle.history.specs.Working.{State, new_book, fresh_state}
 use Rattle.history.specs.Runs.{working_step, Leads, Leads.fresh, Leads.next}
 use Rattle.history.specs.Stands.{Orderly}

@@ -4,7 +4,7 @@ use Rattle.std.proofs.lemmas.Bool.{cond-true, eq-eqb, eqb-true, and_parts, and_f
 use Rattle.std.proofs.lemmas.List.{length-replicate, take-replicate, drop-replicate}
 use Rattle.history.specs.Words.{filled}
 use Rattle.history.specs.Language.{Fault, zeros, Language, blanks}
-use Rattle.history.specs.Calls.{refusal, sized, fresh_refusal, reader_refusal, Answer.refused}
+use Rattle.history.specs.Calls.{refusal, sized, fresh_refusal, reader_refusal}
 use Rattle.history.specs.Plain.{plain}
 use Rattle.history.specs.Areas.{part}
 use Rattle.history.specs.Working.{State, record_at, due_flag, new_book, fresh_state}

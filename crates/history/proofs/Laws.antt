@@ -1,10 +1,9 @@
 -- The law over every history.
 use Rattle.std.proofs.Common.{◌≡◌, ℕ, Ok, Err, Result, sym, refl, ap, ◌∙◌, ap₂, arith}
 use Rattle.history.specs.Language.{Fault, Language}
-use Rattle.history.specs.Calls.{History, Act, Act.wrote, Act.emptied, Act.walked, outcome, Answer, Answer.refused}
+use Rattle.history.specs.Calls.{History, Act, Act.wrote, Act.emptied, Act.walked, outcome, Answer}
 use Rattle.history.specs.Plain.{plain, walks_by}
 use Rattle.history.specs.Working.{State, working_signatures, working_stepped, working_told}
-use Rattle.history.specs.Runs.{Leads.fresh, Leads.next}
 use Rattle.history.specs.Stands.{Stands}
 use Rattle.history.specs.Known.{Known}
 use Rattle.history.specs.Law.{Lawful, Law}

@@ -9,7 +9,6 @@ use Rattle.history.specs.Runs.{Does}
 use Rattle.history.specs.Known.{Known}
 use Rattle.history.specs.Promise.{with_areas, fitted, Handed, left_by, Promise, ReaderPromise, QuestionPromise}
 use Rattle.history.proofs.Readable.{typed, readable}
-use Rattle.history.proofs.Checks.{checks}
 use Rattle.history.proofs.Laws.{lawful}
 
 module _ {Frame Def Text : Type 0} (L : Language Frame Def Text) (K : Known L) where

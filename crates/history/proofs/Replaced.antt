@@ -12,7 +12,6 @@ use Rattle.history.proofs.Words.{updated_other, updated_all}
 use Rattle.history.proofs.Heads.{heads_altered}
 use Rattle.history.proofs.Parts.{length_with_part, part_same, part_other}
 use Rattle.history.proofs.Sounds.{Free, signatures_updated}
-use Rattle.history.proofs.Accepts.{entries}
 use Rattle.history.proofs.Rows.{table_row, length_zeros, row_marked, column_kept, length_image, same_signatures}
 
 module _ {Frame Def Text : Type 0} (L : Language Frame Def Text) (K : Known L) where

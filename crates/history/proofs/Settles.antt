@@ -2,9 +2,8 @@
 use Rattle.std.proofs.Common.{◌≡◌, ℕ, ◌<◌, true, cond, not, ◌&&◌, eqb, List, length, take, Some, None, Ok, Err, Option, Result, sym, refl, ap, ◌∙◌, subst, ap₂, inl, inr, arith}
 use Rattle.std.proofs.lemmas.Bool.{cond-true, cond-false, cases_Bool, eq-eqb, cond_both, eqb-true, not-true, and_parts}
 use Rattle.history.specs.Words.{lowest, count_below, filled}
-use Rattle.history.specs.Language.{Fault, Verdict, Verdict.bad, Heads, heads_of, column_of, blame, Language, size}
+use Rattle.history.specs.Language.{Fault, Verdict, Verdict.bad, Heads, heads_of, column_of, blame, Language}
 use Rattle.history.specs.Calls.{Call, Act.walked, outcome, Answer, Answer.checked}
-use Rattle.history.specs.Plain.{due, told}
 use Rattle.history.specs.Areas.{part}
 use Rattle.history.specs.Working.{Record, State, record_at, working_signatures, due_flag, kept_fault, walked_record, fits, walked_again, settled, walked_column, checked_record, checked_column, working_fault, working_after, working_stepped, working_told}
 use Rattle.history.specs.Runs.{Does}

@@ -6,7 +6,6 @@ use Rattle.history.specs.Words.{updated, map_some, filled}
 use Rattle.history.specs.Language.{Fault, Signatures, head_for, Language, Entries, signature, signatures}
 use Rattle.history.specs.Calls.{History, Act, Act.wrote, Act.emptied, Act.walked, outcome}
 use Rattle.history.specs.Plain.{entries_after, touches, fault_of, Plain, due, walks, valid_after, after, stepped, plain}
-use Rattle.history.specs.Areas.{part}
 use Rattle.history.specs.Stands.{Apart, Sound}
 use Rattle.history.proofs.Words.{updated_other, updated_all, filled_none}
 use Rattle.history.proofs.Heads.{Alone}

@@ -2,14 +2,14 @@
 use Rattle.std.specs.Prelude.{◌≡◌, ℕ, ◌<◌, ◌≤◌, true, false, ◌↔◌, List, [], ◌∷◌, length, Some, None, Ok, Option, nat_eq}
 use Rattle.history.specs.Words.{count_below, any_of, filled}
 use Rattle.history.specs.Language.{Fault, Verdict.bad, Language, size, Entries, heads_in}
-use Rattle.history.specs.Calls.{refusal, Call, History, Act.walked, outcome, Answer, Answer.refused, Answer.checked}
-use Rattle.history.specs.Plain.{due, plain, told, answer, AllDone, plain_walks, puts_of}
+use Rattle.history.specs.Calls.{refusal, Call, History, Act.walked, outcome, Answer, Answer.checked}
+use Rattle.history.specs.Plain.{due, plain, answer, AllDone, plain_walks, puts_of}
 use Rattle.history.specs.Due.{CheckAccepted, Behind}
 use Rattle.history.specs.Accepts.{Accepts}
 use Rattle.history.specs.Refuses.{Refuses}
 use Rattle.history.specs.Areas.{Holds}
 use Rattle.history.specs.Working.{State, record_at, working_signatures, due_flag, new_book, working_reading, asked}
-use Rattle.history.specs.Runs.{working_walks, Does, Freshens, Leads, Leads.fresh, Leads.next}
+use Rattle.history.specs.Runs.{working_walks, Does, Freshens, Leads}
 use Rattle.history.specs.Stands.{image_at, column_at, Stands}
 use Rattle.history.specs.Settles.{Settles}
 use Rattle.history.specs.Readable.{Shown, Readable}

@@ -2,8 +2,7 @@
 use Rattle.std.specs.Prelude.{◌≡◌, ℕ, ◌<◌, true, false, List, take, Some, None, Ok}
 use Rattle.history.specs.Words.{lowest, count_below}
 use Rattle.history.specs.Language.{heads_of, zeros, column_of, Blame, blame, Language}
-use Rattle.history.specs.Calls.{Act.walked, Answer, Answer.checked}
-use Rattle.history.specs.Plain.{told}
+use Rattle.history.specs.Calls.{Answer, Answer.checked}
 use Rattle.history.specs.Areas.{part}
 use Rattle.history.specs.Working.{Record, State, record_at, working_signatures, due_flag, kept_fault, walked_record}
 

@@ -3,7 +3,6 @@ use Rattle.std.specs.Prelude.{ℕ, Bool, true, false, cond, not, ◌&&◌, ◌||
 use Rattle.history.specs.Words.{lowest, count_below, any_of, map_some, filled}
 use Rattle.history.specs.Language.{Fault, Verdict, Verdict.bad, Heads, Signatures, head_for, differ, heads_of, zeros, column_of, Blame, blame, fault_on, as_type, Language, size, image, blanks, signature}
 use Rattle.history.specs.Calls.{refusal, reader_refusal, Act, Act.wrote, Act.emptied, Act.walked, Answer, Answer.refused, Answer.done, Answer.checked}
-use Rattle.history.specs.Plain.{due}
 use Rattle.history.specs.Areas.{part, with_part, rewritten, table}
 
 -- a filled sheet's record: name, head and count of frames of its last put, the verdict kept, and whether the sheet is due

@@ -1,9 +1,9 @@
 -- The links of entries when one more is declared and when the newest goes.
-use Rattle.std.proofs.Common.{◌≡◌, ℕ, ◌+◌, ◌-◌, ◌<◌, ◌≤◌, List, map, length, get_or, set, replicate, sym, refl, ap, ◌∙◌, subst, arith}
+use Rattle.std.proofs.Common.{◌≡◌, ℕ, ◌+◌, ◌<◌, ◌≤◌, List, length, get_or, set, replicate, sym, ap, ◌∙◌, subst, arith}
 use Rattle.std.proofs.lemmas.List.{map-set, length-map, length-set, get_or-map}
 use Rattle.levels.specs.declared.entry.Entry.{Entry}
 use Rattle.levels.specs.Entries.{names, nexts}
-use Rattle.levels.specs.Linked.{bucket, last_in, Threaded, Headed}
+use Rattle.levels.specs.Linked.{bucket, Threaded, Headed}
 use Rattle.levels.proofs.Linking.{threaded_more, threaded_less, threaded_none, headed_more, headed_less, headed_none}
 
 -- what chains keep to: as many entries stand as there are at most, and links and heads lead where they should

@@ -1,10 +1,10 @@
 -- The levels that are cut out of a list of entries.
-use Rattle.std.proofs.Common.{◌≡◌, ℕ, suc, ◌+◌, ◌-◌, ◌<◌, ◌≤◌, min, Bool, true, cond, List, [], ◌∷◌, ◌++◌, map, reverse, length, take, drop, set, is_some, sym, refl, ap, ◌∙◌, arith, eqb-true}
+use Rattle.std.proofs.Common.{◌≡◌, ℕ, suc, ◌+◌, ◌-◌, ◌<◌, ◌≤◌, min, true, List, [], ◌∷◌, ◌++◌, map, reverse, length, take, drop, set, is_some, sym, refl, ap, ◌∙◌, arith, eqb-true}
 use Rattle.std.proofs.lemmas.List.{drop_all, length-take, length-drop, length-reverse, reverse-append, take-append-drop, take-take, take-set-le, take_more_set, drop-append-le, take-map, drop-map}
 use Rattle.levels.specs.declared.entry.Entry.{Entry}
 use Rattle.levels.specs.Store.{find, looked, stands, standing, added, or_else}
 use Rattle.levels.specs.Search.{newest_of}
-use Rattle.levels.specs.Entries.{pair, names, value_at}
+use Rattle.levels.specs.Entries.{pair, names}
 use Rattle.levels.specs.Starts.{ordered}
 use Rattle.levels.specs.Layout.{cut, on_top}
 use Rattle.levels.proofs.Starting.{ordered_top, ordered_rest}

@@ -1,11 +1,11 @@
 -- A level's table against a search of its entries' names.
-use Rattle.std.proofs.Common.{◌≡◌, ℕ, zero, suc, ◌<◌, Bool, true, false, cond, eqb, ◌⊎◌, List, [], ◌∷◌, ◌++◌, map, reverse, length, is_some, Some, None, Option, sym, refl, ap, ◌∙◌, subst, inl, inr, ⊎_elim, arith}
+use Rattle.std.proofs.Common.{◌≡◌, ℕ, ◌<◌, Bool, true, false, cond, eqb, List, [], ◌∷◌, ◌++◌, map, reverse, length, is_some, Some, None, Option, sym, refl, ap, ◌∙◌, arith}
 use mathlib.Core.List.{reverse-cons}
 use Rattle.std.proofs.lemmas.List.{length-map}
 use Rattle.levels.specs.declared.entry.Entry.{Entry}
 use Rattle.levels.specs.Store.{find, or_else}
 use Rattle.levels.specs.Search.{newest_of, later}
-use Rattle.levels.specs.Entries.{pair, names, value_nth, value_at}
+use Rattle.levels.specs.Entries.{pair, names, value_at}
 use Rattle.levels.proofs.Reading.{value_nth_in, value_nth_is}
 use Rattle.levels.proofs.Searching.{newest_low}
 

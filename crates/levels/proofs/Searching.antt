@@ -4,7 +4,7 @@ use borrow.Author.Tests.{lt-leb}
 use Rattle.std.proofs.lemmas.Bool.{cases_eq, cases_lt}
 use Rattle.std.proofs.lemmas.List.{drop_more}
 use Rattle.levels.specs.Layout.{on_top}
-use Rattle.levels.specs.Search.{newest_of, later, Clear, Newest}
+use Rattle.levels.specs.Search.{newest_of, later, Clear}
 
 -- an option holds something or nothing
 pub known : (o : Option ℕ) → (o ≡ None) ⊎ ((k : ℕ) × (o ≡ Some k))

@@ -1,12 +1,11 @@
 -- What the calls on a level table do to the store that its layout and the entries make.
-use Rattle.std.proofs.Common.{◌≡◌, ℕ, ◌+◌, ◌<◌, ◌≤◌, min, Bool, true, false, cond, ltb, List, [], ◌∷◌, map, reverse, length, take, Some, None, Option, sym, refl, ap, ◌∙◌, ⊎_elim, arith, le-ltb}
+use Rattle.std.proofs.Common.{◌≡◌, ℕ, ◌<◌, ◌≤◌, min, Bool, true, cond, ltb, List, [], ◌∷◌, map, reverse, length, take, Some, None, Option, sym, refl, ap, ◌∙◌, ⊎_elim, arith, le-ltb}
 use Rattle.std.proofs.lemmas.Bool.{cases_lt}
 use Rattle.std.proofs.lemmas.List.{length-map, length-take, take-map}
 use Rattle.levels.specs.declared.entry.Entry.{Entry}
-use Rattle.levels.specs.declared.refusal.Refusal.{Refusal}
 use Rattle.levels.specs.declared.refusal.Refusal.TheVariants.{TooDeep, Repeated, Full}
 use Rattle.levels.specs.Refusals.{too_deep, none_to_leave, no_place, unless}
-use Rattle.levels.specs.Store.{Store, enter_refused, leave_refused, declare_refused, entered, left, with_levels, looked, stands, standing, find}
+use Rattle.levels.specs.Store.{Store, enter_refused, leave_refused, declare_refused, entered, left, with_levels, looked, stands, find}
 use Rattle.levels.specs.Search.{newest_of}
 use Rattle.levels.specs.Entries.{pair, names, value_at}
 use Rattle.levels.specs.Starts.{ordered}
@@ -16,7 +15,7 @@ use Rattle.levels.proofs.Starting.{ordered_top}
 use Rattle.levels.proofs.Reading.{value_nth_take}
 use Rattle.levels.proofs.Searching.{newest_low}
 use Rattle.levels.proofs.Finding.{find_newest}
-use Rattle.levels.proofs.Cutting.{length_cut, cut_opened, standing_cut, cut_claimed, looked_cut, stands_cut}
+use Rattle.levels.proofs.Cutting.{length_cut, cut_opened, standing_cut, looked_cut, stands_cut}
 
 -- a store over the first entries of those that were lent, with no level yet
 pub store_new : {V : Type 0} (y : Layout) (lent es : List (Entry V)) → y ≡ no_levels → es ≡ take 256 lent → store_of y es ≡ record { capacity = min 256 (length lent); levels = [] }

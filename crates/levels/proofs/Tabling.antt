@@ -1,8 +1,8 @@
 -- The calls on a level table, over its array, depth and count.
-use Rattle.std.proofs.Common.{◌≡◌, ℕ, zero, suc, ◌+◌, ◌-◌, ◌<◌, ◌≤◌, Bool, true, false, cond, ltb, List, [], ◌∷◌, length, get_or, set, Some, None, Ok, Err, Option, Result, sym, refl, ap, ◌∙◌, arith, le-ltb, lt-ltb}
+use Rattle.std.proofs.Common.{◌≡◌, ℕ, ◌+◌, ◌-◌, ◌<◌, ◌≤◌, Bool, true, false, cond, ltb, List, ◌∷◌, length, get_or, set, Some, None, Option, sym, ap, ◌∙◌, le-ltb, lt-ltb}
 use Rattle.levels.specs.declared.refusal.Refusal.{Refusal}
-use Rattle.levels.specs.declared.refusal.Refusal.TheVariants.{TooDeep, NoneToLeave, NoLevel, Repeated, Full}
-use Rattle.levels.specs.Refusals.{too_deep, none_to_leave, no_place, unless, answer, answer_with}
+use Rattle.levels.specs.declared.refusal.Refusal.TheVariants.{TooDeep, Repeated, Full}
+use Rattle.levels.specs.Refusals.{too_deep, none_to_leave, no_place, unless}
 use Rattle.levels.specs.Starts.{newest_first}
 use Rattle.levels.specs.Layout.{Layout, opened, closed, without_top, top_of}
 use Rattle.levels.proofs.Starting.{newest_first_more, newest_first_less, length_newest_first}

@@ -1,5 +1,5 @@
 -- What is left of a store after a wipe, a level and two names, and what is answered.
-use Rattle.std.specs.Prelude.{ℕ, List, [], ◌∷◌, Option, Result}
+use Rattle.std.specs.Prelude.{ℕ, [], ◌∷◌, Option, Result}
 use Rattle.levels.specs.declared.refusal.Refusal.{Refusal}
 use Rattle.levels.specs.Store.{Store, entered, wiped, declared, declare_refused, looked, with_levels, or_else}
 use Rattle.levels.specs.Refusals.{answer_with, unless}

@@ -1,8 +1,8 @@
 -- The calls on a store with room for one entry.
 use Rattle.std.proofs.Common.{◌≡◌, ℕ, zero, suc, ◌+◌, ◌-◌, ◌<◌, ◌≤◌, Bool, true, false, cond, eqb, ltb, List, [], ◌∷◌, length, is_some, Some, None, Option, sym, refl, ap, ◌∙◌, add-one, arith, le-ltb, lt-ltb, eq-eqb, ne_eqb}
-use Rattle.levels.specs.declared.refusal.Refusal.TheVariants.{TooDeep, NoLevel, Repeated, Full}
-use Rattle.levels.specs.Refusals.{too_deep, no_place, none_to_leave, unless}
-use Rattle.levels.specs.Store.{Store, find, looked, stands, standing, or_else, entered, enter_refused, left, leave_refused, declared, declare_refused, added}
+use Rattle.levels.specs.declared.refusal.Refusal.TheVariants.{TooDeep, Repeated, Full}
+use Rattle.levels.specs.Refusals.{unless}
+use Rattle.levels.specs.Store.{looked, stands, standing, or_else, entered, enter_refused, left, leave_refused, declared, declare_refused, added}
 use Rattle.levels_tests.specs.Single.{empties, held_levels, single, depth_of}
 
 module _ {V : Type 0} where

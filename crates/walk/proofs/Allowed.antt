@@ -1,5 +1,5 @@
 -- What is known where the form allows a frame.
-use Rattle.std.proofs.Common.{◌≡◌, ℕ, ◌+◌, ◌-◌, ◌<◌, ◌≤◌, Bool as Truth, true, false, cond, eqb, ltb, leb, List, [], ◌∷◌, length, Some, sym, refl, ap, ◌∙◌, subst}
+use Rattle.std.proofs.Common.{◌≡◌, ℕ, ◌+◌, ◌-◌, ◌<◌, ◌≤◌, Bool as Truth, true, false, cond, eqb, ltb, leb, List, [], ◌∷◌, length, Some, sym, refl, ap, ◌∙◌}
 use Rattle.std.proofs.lemmas.Bool.{eqb-true, ltb-true, leb-true}
 use Rattle.syntax.specs.declared.frame.Frame.{Frame}
 use Rattle.syntax.specs.declared.kinds.Row.{Row}
@@ -9,7 +9,7 @@ use Rattle.syntax.specs.declared.stages.Unfinished.{Unfinished}
 use Rattle.syntax.specs.declared.stages.Unfinished.TheVariants.{Block, Loop, Choice}
 use Rattle.syntax.specs.Writing.{Token, frame_of}
 use Rattle.syntax.specs.Kinds.{row}
-use Rattle.syntax.specs.Form.{Answer, fine, refused, State, at, starting, at_params, at_names, in_body, exactly, operand, begin, close, end, finish, allow, step, run, accepted, Verdict}
+use Rattle.syntax.specs.Form.{Answer, fine, refused, State, at, starting, at_params, at_names, in_body, exactly, operand, begin, close, end, finish, allow, step, run, accepted}
 use Rattle.syntax.proofs.Turns.{clash, went}
 use Rattle.syntax.proofs.TokenRows.{token_row, role, row_token}
 use Rattle.syntax.proofs.TokenFrames.{token_of}

@@ -1,5 +1,5 @@
 -- What a step that answered has left.
-use Rattle.std.proofs.Common.{◌≡◌, ℕ, ◌≤◌, Bool as Truth, true, false, cond, ltb, List, ◌∷◌, drop, Ok, Err, Result, sym, refl, ap, ◌∙◌}
+use Rattle.std.proofs.Common.{◌≡◌, ℕ, ◌≤◌, Bool as Truth, true, false, cond, ltb, List, ◌∷◌, drop, Ok, Err, Result, sym, ap, ◌∙◌}
 use Rattle.std.proofs.lemmas.Bool.{le-ltb, cond-false}
 use Rattle.syntax.specs.declared.frame.Frame.{Frame}
 use Rattle.rules.specs.declared.violation.Violation.{Violation}

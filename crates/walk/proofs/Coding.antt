@@ -1,5 +1,5 @@
 -- Looking up, declaring and judging on types and on their codes.
-use Rattle.std.proofs.Common.{◌≡◌, ℕ, zero, suc, Bool as Truth, true, false, cond, ◌&&◌, eqb, List, [], ◌∷◌, map, reverse, get_or, take, is_some, Some, None, Ok, Err, Option, Result, sym, refl, ap, ◌∙◌, ap₂}
+use Rattle.std.proofs.Common.{◌≡◌, ℕ, zero, suc, Bool as Truth, true, false, cond, ◌&&◌, eqb, List, [], ◌∷◌, map, reverse, get_or, take, is_some, Some, None, Ok, Err, Option, Result, refl, ap, ◌∙◌, ap₂}
 use mathlib.Core.List.{reverse_aux}
 use Rattle.std.proofs.lemmas.List.{take-map}
 use Rattle.syntax.specs.declared.frame.«Type».{«Type» as Ty}

@@ -1,5 +1,5 @@
 -- Operators and calls on types and on their codes.
-use Rattle.std.proofs.Common.{◌≡◌, ℕ, ◌<◌, ◌≤◌, Bool as Truth, true, false, cond, ◌&&◌, eqb, ltb, List, [], ◌∷◌, map, reverse, length, get_or, take, Some, None, Ok, Err, Option, sym, refl, ap, ◌∙◌, ap₂, arith}
+use Rattle.std.proofs.Common.{◌≡◌, ℕ, ◌≤◌, Bool as Truth, true, false, cond, eqb, ltb, List, [], ◌∷◌, map, reverse, length, take, Some, None, Ok, Err, Option, sym, refl, ap, ◌∙◌, ap₂, arith}
 use Rattle.std.proofs.lemmas.List.{length-map, length-reverse, take-map}
 use Rattle.std.proofs.lemmas.Bool.{lt-ltb, and_from}
 use Rattle.syntax.specs.declared.frame.«Type».{«Type» as Ty}
@@ -13,7 +13,7 @@ use Rattle.rules.specs.Heads.{Head, head}
 use Rattle.rules.specs.Faults.{◌>>=◌, need, require}
 use Rattle.rules.specs.Judge.{row as row_of, same, same_all, judge_arguments, judge_binary}
 use Rattle.walk.specs.Judge.{equal_all, row, operated, called}
-use Rattle.walk.specs.Tied.{packed_head, Carries}
+use Rattle.walk.specs.Tied.{Carries}
 use Rattle.walk.proofs.Coding.{coded_option, coded_answer, need_coded, newest_coded, equal_coded}
 
 -- ===== operators =====

@@ -1,9 +1,9 @@
 -- The earlier names of a declaration, as the code finds them among the frames.
-use Rattle.std.proofs.Common.{◌≡◌, ℕ, zero, suc, ◌+◌, ◌-◌, ◌<◌, ◌≤◌, Bool as Truth, true, false, cond, ◌||◌, eqb, List, [], ◌∷◌, ◌++◌, map, reverse, length, get_or, take, drop, is_some, Some, None, Ok, Err, Option, sym, refl, ap, ◌∙◌, ap₂, arith}
+use Rattle.std.proofs.Common.{◌≡◌, ℕ, zero, suc, ◌+◌, ◌-◌, ◌<◌, ◌≤◌, Bool as Truth, true, false, cond, ◌||◌, eqb, List, [], ◌∷◌, ◌++◌, reverse, length, get_or, take, drop, is_some, Some, None, Ok, Err, Option, sym, refl, ap, ◌∙◌, ap₂, arith}
 use Rattle.std.proofs.lemmas.List.{reverse-append, take_more, get_or-drop, length-drop, map_push}
 use Rattle.syntax.specs.declared.frame.Frame.{Frame}
 use Rattle.syntax.specs.declared.stages.Unfinished.{Unfinished}
-use Rattle.levels.specs.Store.{stands, added}
+use Rattle.levels.specs.Store.{stands}
 use Rattle.levels.specs.Search.{later, newest_of}
 use Rattle.rules.specs.declared.violation.Violation.TheVariants.{Repeated}
 use Rattle.rules.specs.Judge.{among}

@@ -1,9 +1,8 @@
 -- The codes of a sheet's parameters are those of its definition, and can be packed.
-use Rattle.std.proofs.Common.{◌≡◌, ℕ, zero, suc, ◌+◌, ◌<◌, ◌≤◌, true, cond, ltb, List, [], ◌∷◌, ◌++◌, map, length, get_or, take, is_some, Some, None, Option, sym, refl, ap, ◌∙◌, subst, ap₂, arith}
+use Rattle.std.proofs.Common.{◌≡◌, ℕ, zero, suc, ◌+◌, ◌<◌, ◌≤◌, true, ltb, List, [], ◌∷◌, map, length, get_or, take, is_some, Some, None, Option, sym, refl, ap, ◌∙◌, ap₂, arith}
 use Rattle.std.proofs.lemmas.List.{take-map, take_all, length-map}
 use Rattle.std.proofs.lemmas.Bool.{cond-true}
 use Rattle.syntax.specs.declared.frame.Frame.{Frame}
-use Rattle.syntax.specs.declared.frame.«Type».{«Type» as Ty}
 use Rattle.syntax.specs.declared.frame.Parameter.{Parameter}
 use Rattle.syntax.specs.Trees.{Definition}
 use Rattle.syntax.specs.Writing.{Token, END, write_params, write_stmts, written, frame_of, type_code, blank}

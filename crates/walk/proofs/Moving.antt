@@ -5,19 +5,19 @@ use Rattle.syntax.specs.declared.frame.Frame.{Frame}
 use Rattle.syntax.specs.declared.frame.«Type».{«Type» as Ty}
 use Rattle.syntax.specs.declared.frame.«Type».TheVariants.{Bool, Void}
 use Rattle.syntax.specs.declared.stages.Unfinished.{Unfinished}
-use Rattle.syntax.specs.declared.stages.Unfinished.TheVariants.{Block, Loop, Choice}
+use Rattle.syntax.specs.declared.stages.Unfinished.TheVariants.{Loop, Choice}
 use Rattle.syntax.specs.Trees.{true_literal, false_literal, int_literal, double_literal, string_literal, Operator, plus, minus, times, divide, less, less_equal, equal, not_equal, greater_equal, greater, logical_and, logical_or, post_increment, post_decrement, pre_increment, pre_decrement}
 use Rattle.syntax.specs.Writing.{Token, HEAD, PARAM, END, DO, DECL, NAME, INIT, RETV, RET, OPEN, CLOSE, WHILE, IF, LITERAL, VARIABLE, CALL, UPDATE, BINARY, ASSIGN, frame_of, type_code, operator_kind}
 use Rattle.syntax.specs.Form.{finish}
-use Rattle.levels.specs.Store.{looked, stands, added, below}
+use Rattle.levels.specs.Store.{looked, stands, added}
 use Rattle.rules.specs.declared.violation.Violation.{Violation}
-use Rattle.rules.specs.declared.violation.Violation.TheVariants.{Undeclared, NoFunction, OtherInitial, Repeated, OtherReturn, NoCondition}
+use Rattle.rules.specs.declared.violation.Violation.TheVariants.{OtherInitial, Repeated, OtherReturn, NoCondition}
 use Rattle.rules.specs.Heads.{Signature, Levels}
-use Rattle.rules.specs.Faults.{◌>>=◌, need, require}
-use Rattle.rules.specs.Judge.{among, same, judge_variable, judge_update, judge_call, judge_binary, judge_assign, judge_init, judge_name, judge_return, judge_condition}
-use Rattle.rules.specs.Walk.{Naming, idle as idle_now, naming as naming_of, State as Walking, state as walking, alone, newest, before_newest, keep, passed, given, await, move_name, move}
-use Rattle.walk.specs.Judge.{Numbers, arity, judge, operated, updated, called, assigned}
-use Rattle.walk.specs.Step.{Names, idle, naming, State, state, awaiting, kept, asked, named, initial, stated, stepped, Turn, turn, plain, typed}
+use Rattle.rules.specs.Faults.{◌>>=◌, require}
+use Rattle.rules.specs.Judge.{among, same, judge_variable, judge_update, judge_call, judge_binary, judge_assign, judge_condition}
+use Rattle.rules.specs.Walk.{Naming, idle as idle_now, naming as naming_of, State as Walking, alone, newest, before_newest, keep, passed, given, await, move_name, move}
+use Rattle.walk.specs.Judge.{Numbers, arity, operated, updated, assigned}
+use Rattle.walk.specs.Step.{Names, idle, naming, State, state, awaiting, kept, asked, named, stepped, Turn, plain, typed}
 use Rattle.walk.specs.Tied.{coded_levels, Holds}
 use Rattle.walk.proofs.Coding.{coded_answer, stands_coded, added_coded, below_coded, getD_coded, variable_coded, update_coded, assign_coded}
 use Rattle.walk.proofs.CodingRows.{binary_coded, call_coded}

@@ -1,9 +1,8 @@
 -- What is known at a frame of a sheet, and after it.
-use Rattle.std.proofs.Common.{◌≡◌, ℕ, ◌+◌, ◌<◌, ◌≤◌, true, false, List, [], ◌∷◌, length, Ok, sym, refl, ap, ◌∙◌, subst, arith}
+use Rattle.std.proofs.Common.{◌≡◌, ℕ, ◌+◌, ◌<◌, ◌≤◌, true, false, List, ◌∷◌, length, Ok, sym, refl, ap, ◌∙◌, subst, arith}
 use Rattle.std.proofs.lemmas.Bool.{false≢true}
 use Rattle.syntax.specs.declared.frame.Frame.{Frame}
 use Rattle.syntax.specs.declared.stages.Unfinished.{Unfinished}
-use Rattle.syntax.specs.Writing.{frame_of}
 use Rattle.syntax.specs.Form.{fine, refused, Verdict, accepted, forms, is_fine, is_sheet, start as form_start}
 use Rattle.syntax.proofs.Exact.{forms_run}
 use Rattle.syntax.proofs.Heads.{two_frames}
@@ -15,7 +14,6 @@ use Rattle.walk.specs.Machines.{Ready, Within, Awaits, coming_at}
 use Rattle.walk.specs.Params.{param_twice}
 use Rattle.walk.proofs.Allowed.{allowed}
 use Rattle.walk.proofs.Agreeing.{Agreeing, Sound}
-use Rattle.walk.proofs.Shapes.{Goes}
 use Rattle.walk.proofs.Sound.{goes_by}
 
 -- the step's needs are met, and the sheet goes on soundly after it

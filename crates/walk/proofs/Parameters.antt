@@ -1,13 +1,12 @@
 -- The parameter frames of a sheet, one by one.
-use Rattle.std.proofs.Common.{◌≡◌, ℕ, zero, suc, ◌+◌, ◌-◌, ◌<◌, ◌≤◌, Bool as Truth, true, false, cond, ◌||◌, List, [], ◌∷◌, ◌++◌, map, reverse, length, get_or, take, drop, is_some, sym, refl, ap, ◌∙◌, subst, ap₂, add-one, arith}
-use Rattle.std.proofs.lemmas.List.{length-drop, length-take-le, get_or-take, get_or-drop, take_more, drop_more, drop_all, take-take, take-map, map_push, reverse-append, length-map}
+use Rattle.std.proofs.Common.{◌≡◌, ℕ, zero, suc, ◌+◌, ◌-◌, ◌<◌, ◌≤◌, true, false, ◌||◌, List, [], ◌∷◌, ◌++◌, map, reverse, length, get_or, take, drop, is_some, sym, refl, ap, ◌∙◌, ap₂, arith}
+use Rattle.std.proofs.lemmas.List.{length-drop, length-take-le, get_or-take, get_or-drop, take_more, drop_more, drop_all, take-map, map_push, reverse-append}
 use Rattle.syntax.specs.declared.frame.Frame.{Frame}
 use Rattle.syntax.specs.Writing.{blank}
 use Rattle.syntax.specs.Heads.{head}
 use Rattle.syntax.specs.Form.{is_sheet}
 use Rattle.syntax.proofs.Heads.{params_end}
 use Rattle.levels.specs.Search.{newest_of}
-use Rattle.rules.specs.Judge.{among}
 use Rattle.walk.specs.Machines.{names_of}
 use Rattle.walk.specs.Params.{param_frames, repeats, param_twice}
 use Rattle.walk.specs.Examined.{param_codes}

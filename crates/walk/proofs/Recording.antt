@@ -1,5 +1,5 @@
 -- The test of an examination says what the record tells: names that do not repeat are distinct, and the head is the sheet's.
-use Rattle.std.proofs.Common.{◌≡◌, ℕ, Bool as Truth, true, false, not, ◌&&◌, ◌||◌, eqb, List, [], ◌∷◌, map, sym, refl, ap, ◌∙◌, subst, ap₂}
+use Rattle.std.proofs.Common.{◌≡◌, ℕ, Bool as Truth, true, false, not, ◌||◌, eqb, List, [], ◌∷◌, map, sym, refl, ap, ◌∙◌, subst, ap₂}
 use Rattle.std.proofs.lemmas.Bool.{eqb-true, eq-eqb, and_parts, and_from, false≢true}
 use Rattle.syntax.specs.declared.frame.Frame.{Frame}
 use Rattle.syntax.specs.Types.{param_of}
@@ -8,7 +8,7 @@ use Rattle.syntax.specs.Form.{is_sheet}
 use Rattle.rules.specs.Judge.{among}
 use Rattle.rules.specs.Sequences.{NotIn, Distinct}
 use Rattle.rules.specs.Programs.{param_names}
-use Rattle.rules.specs.Books.{sheet_params, sheet_head}
+use Rattle.rules.specs.Books.{sheet_head}
 use Rattle.rules.proofs.Books.{head_written}
 use Rattle.rules.proofs.Decided.{sheet_definition}
 use Rattle.walk.specs.Machines.{names_of}

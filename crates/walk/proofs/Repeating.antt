@@ -1,5 +1,5 @@
 -- Names that do not repeat, one by one.
-use Rattle.std.proofs.Common.{◌≡◌, ℕ, zero, suc, ◌-◌, ◌<◌, Bool as Truth, true, false, ◌||◌, List, [], ◌∷◌, take, sym, refl, ap, ◌∙◌, arith}
+use Rattle.std.proofs.Common.{◌≡◌, ℕ, zero, suc, ◌-◌, ◌<◌, Bool as Truth, true, false, ◌||◌, List, ◌∷◌, take, sym, refl, ap, ◌∙◌, arith}
 use Rattle.syntax.specs.declared.frame.Frame.{Frame}
 use Rattle.rules.specs.Judge.{among}
 use Rattle.walk.specs.Machines.{names_of}

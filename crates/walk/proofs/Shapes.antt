@@ -1,5 +1,5 @@
 -- What a frame that the form allows finds and leaves, by the shape of what it does.
-use Rattle.std.proofs.Common.{◌≡◌, ℕ, suc, ◌+◌, ◌-◌, ◌<◌, ◌≤◌, List, [], ◌∷◌, length, drop, Ok, sym, refl, ap, ◌∙◌, subst, arith}
+use Rattle.std.proofs.Common.{◌≡◌, ℕ, suc, ◌+◌, ◌-◌, ◌<◌, ◌≤◌, List, ◌∷◌, length, Ok, sym, refl, ap, ◌∙◌, subst, arith}
 use Rattle.std.proofs.lemmas.List.{length-drop}
 use Rattle.syntax.specs.declared.frame.Frame.{Frame}
 use Rattle.syntax.specs.declared.stages.Stage.{Stage}
@@ -10,12 +10,12 @@ use Rattle.levels.specs.Store.{standing}
 use Rattle.walk.specs.declared.machine.Pending.{Pending}
 use Rattle.walk.specs.declared.machine.Pending.TheVariants.{Nothing}
 use Rattle.walk.specs.Judge.{Numbers, arity, judge}
-use Rattle.walk.specs.Step.{idle, naming, State, state, stepped, turn}
+use Rattle.walk.specs.Step.{idle, State, state, stepped, turn}
 use Rattle.walk.specs.Machines.{Ready}
 use Rattle.walk.proofs.Counts.{blocks, blocks_finish}
 use Rattle.walk.proofs.Allowed.{body_is, operand_is}
 use Rattle.walk.proofs.Answered.{stepped_typed, typed_is}
-use Rattle.walk.proofs.Agreeing.{Standing, Agrees, Agreeing, some_level}
+use Rattle.walk.proofs.Agreeing.{Agrees, Agreeing, some_level}
 use Rattle.walk.proofs.Readies as readies
 
 module _ (cap : ℕ) (room : 256 ≤ cap) (i : ℕ) (fs : List Frame) (s : State) (p : Pending) (l : i < 256) (still : s.names ≡ idle → p ≡ Nothing) where

@@ -14,7 +14,6 @@ use Rattle.levels.specs.Store.{standing, stands, added}
 use Rattle.rules.specs.declared.violation.Violation.TheVariants.{Repeated, OtherInitial}
 use Rattle.walk.specs.declared.machine.Pending.{Pending}
 use Rattle.walk.specs.declared.machine.Pending.TheVariants.{Nothing}
-use Rattle.walk.specs.Judge.{Numbers}
 use Rattle.walk.specs.Step.{idle, naming, State, state, kept, named, stated}
 use Rattle.walk.specs.Machines.{Awaits, names_of}
 use Rattle.walk.specs.Params.{repeats}

@@ -1,5 +1,5 @@
 -- The walk on codes tells what the walk of the rules answers.
-use Rattle.std.proofs.Common.{◌≡◌, ℕ, ◌-◌, true, List, [], ◌∷◌, ◌++◌, map, reverse, length, replicate, Ok, Err, Result, sym, refl, ap, ◌∙◌, subst, ap₂}
+use Rattle.std.proofs.Common.{◌≡◌, ℕ, ◌-◌, true, List, [], ◌∷◌, ◌++◌, map, reverse, length, replicate, Ok, Err, Result, sym, refl, ap, ◌∙◌, ap₂}
 use Rattle.std.proofs.lemmas.List.{length-reverse}
 use Rattle.syntax.specs.declared.frame.Frame.{Frame}
 use Rattle.syntax.specs.declared.frame.«Type».{«Type» as Ty}
@@ -13,12 +13,12 @@ use Rattle.rules.specs.Heads.{Signature, Levels}
 use Rattle.rules.specs.Faults.{Fault, fault, ◌>>=◌, placed}
 use Rattle.rules.specs.Typed.{column_left}
 use Rattle.rules.specs.Tokens.{token}
-use Rattle.rules.specs.Walk.{State as Walking, move, step, walk, start as walk_start, returned, walk_frames, walk_sheet}
+use Rattle.rules.specs.Walk.{State as Walking, move, walk, start as walk_start, returned, walk_frames, walk_sheet}
 use Rattle.rules.proofs.Results.{type_back}
 use Rattle.rules.proofs.Decoded.{tokens_written}
 use Rattle.rules.proofs.Decided.{sheet_definition}
 use Rattle.walk.specs.Judge.{Numbers}
-use Rattle.walk.specs.Step.{State, stepped, Turn, turn, Outcome, ended, broken, walked, start}
+use Rattle.walk.specs.Step.{stepped, Turn, Outcome, ended, broken, walked, start}
 use Rattle.walk.specs.Outcomes.{outcome, verdict_of, column_of, levels_of}
 use Rattle.walk.specs.Tied.{coded_levels, Holds, walk_verdict, walk_levels}
 use Rattle.walk.proofs.Turns.{goes, breaks, over}

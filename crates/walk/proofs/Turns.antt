@@ -9,7 +9,7 @@ use Rattle.walk.specs.declared.machine.Machine.{Machine}
 use Rattle.walk.specs.declared.machine.Pending.{Pending}
 use Rattle.walk.specs.Stacks.{down, types_of, things_of}
 use Rattle.walk.specs.Judge.{Numbers}
-use Rattle.walk.specs.Step.{State, state, stepped, start, Turn, turn, Outcome, ended, broken, walked}
+use Rattle.walk.specs.Step.{State, stepped, start, Turn, turn, Outcome, ended, broken, walked}
 use Rattle.walk.specs.Outcomes.{column_of}
 use Rattle.walk.specs.Machines.{Ready, Within, At, state_of}
 use Rattle.walk.proofs.Agreeing.{Sound}

@@ -1,19 +1,15 @@
 -- What an examination that comes to a walk answers and leaves.
-use Rattle.std.proofs.Common.{◌≡◌, ℕ, ◌≤◌, Bool as Truth, true, false, cond, not, ◌&&◌, eqb, leb, List, length, replicate, Ok, Err, Result, sym, refl, ap, ◌∙◌, subst}
+use Rattle.std.proofs.Common.{◌≡◌, ℕ, ◌≤◌, Bool as Truth, true, List, length, Ok, Result, sym, refl, ap, ◌∙◌, subst}
 use Rattle.std.proofs.lemmas.Bool.{eq-eqb, le-leb, and_parts}
 use Rattle.syntax.specs.declared.frame.Frame.{Frame}
-use Rattle.syntax.specs.Heads.{head}
 use Rattle.syntax.specs.Form.{is_sheet}
 use Rattle.levels.specs.Store.{Store, with_levels}
 use Rattle.walk.specs.declared.verdict.Verdict.{Verdict}
-use Rattle.walk.specs.declared.verdict.Verdict.TheVariants.{Altered}
 use Rattle.walk.specs.declared.verdict.Refusal.{Refusal}
-use Rattle.walk.specs.declared.verdict.Refusal.TheVariants.{OtherColumn, SmallStore}
 use Rattle.walk.specs.Judge.{Numbers}
 use Rattle.walk.specs.Step.{Outcome}
 use Rattle.walk.specs.Outcomes.{outcome, verdict_of, column_of, levels_of}
-use Rattle.walk.specs.Params.{param_twice}
-use Rattle.walk.specs.Examined.{sheet_packed, recorded, examined, column_after, store_after, Leaves, Decides, Walks}
+use Rattle.walk.specs.Examined.{recorded, examined, column_after, store_after, Decides}
 use Rattle.walk.proofs.Telling.{verdict_tied, column_tied, levels_tied}
 
 -- the frames as recorded form a sheet without a parameter twice

@@ -1,5 +1,5 @@
 -- What one frame does to a walk, on the codes of types and on packed heads, and the walk over all frames.
-use Rattle.std.specs.Prelude.{ℕ, zero, suc, ◌-◌, Bool as Truth, true, false, cond, ◌||◌, List, [], ◌∷◌, ◌++◌, reverse, length, drop, replicate, Ok, Err, Result, ◌==◌, nat_le, nat_lt, slice_index_or}
+use Rattle.std.specs.Prelude.{ℕ, zero, suc, ◌-◌, Bool as Truth, cond, ◌||◌, List, [], ◌∷◌, length, drop, Ok, Err, Result, ◌==◌, nat_le, nat_lt, slice_index_or}
 use Rattle.syntax.specs.declared.frame.Frame.{Frame}
 use Rattle.syntax.specs.declared.stages.Unfinished.{Unfinished}
 use Rattle.syntax.specs.declared.stages.Unfinished.TheVariants.{Block, Loop, Choice}

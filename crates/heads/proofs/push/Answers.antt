@@ -1,5 +1,5 @@
-use Rattle.std.proofs.Common.{◌≡◌, cond, ltb, Some, None, sym, ap, ◌∙◌, arith, rules, le-ltb, lt-ltb}
-use Rattle.heads.specs.Heads.{pushed, extended, count_of}
+use Rattle.std.proofs.Common.{◌≡◌, Some, None, rules}
+use Rattle.heads.specs.Heads.{pushed, extended}
 use Rattle.heads.proofs.Pushing.{pushes}
 use Rattle.heads.proofs.push.Goals as goal
 

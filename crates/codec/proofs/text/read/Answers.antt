@@ -1,4 +1,4 @@
-use Rattle.std.proofs.Common.{◌≡◌, ◌≤◌, [], ◌++◌, length, drop, Ok, Err, sym, refl, ap, ◌∙◌, subst, inl, inr, arith}
+use Rattle.std.proofs.Common.{◌≡◌, ◌≤◌, ◌++◌, length, drop, Ok, Err, refl, ap, subst, inl, inr, arith}
 use Rattle.std.proofs.lemmas.List.{length-drop, drop_all, drop-drop, take_rest}
 use Rattle.codec.specs.Codec.{Begun, NoLine, Reads}
 use Rattle.syntax.specs.declared.fault.Fault.TheVariants.{BadLine, FramesFull}

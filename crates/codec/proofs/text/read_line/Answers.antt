@@ -1,8 +1,7 @@
-use Rattle.std.proofs.Common.{◌≡◌, ℕ, ◌+◌, ◌≤◌, List, length, take, drop, sym, refl, ap, ◌∙◌, subst, arith}
+use Rattle.std.proofs.Common.{◌≡◌, ℕ, ◌+◌, ◌≤◌, List, length, take, drop, arith}
 use Rattle.std.proofs.lemmas.List.{length-take-le, length-drop}
-use Rattle.codec.specs.Text.{hexes}
 use Rattle.codec.proofs.Hex.{sized, resized}
-use Rattle.codec.proofs.Lines.{Parts, apart, together}
+use Rattle.codec.proofs.Lines.{apart, together}
 use Rattle.codec.proofs.text.read_line.Goals as goal
 
 pub returns-then-text-lt17 : goal.returns-then-text-lt17

@@ -1,4 +1,4 @@
-use Rattle.std.proofs.Common.{◌≡◌, sym, subst, arith}
+use Rattle.std.proofs.Common.{arith}
 use Rattle.driver.proofs.RunLaws.{ends_here, stops_here, onward}
 use Rattle.driver.proofs.running.run.Goals as goal
 

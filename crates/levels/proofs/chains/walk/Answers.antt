@@ -1,9 +1,9 @@
-use Rattle.std.proofs.Common.{◌≡◌, ℕ, ◌+◌, ◌-◌, ◌<◌, ◌≤◌, map, length, get_or, take, sym, ap, ◌∙◌, subst, arith, rules}
+use Rattle.std.proofs.Common.{◌≡◌, ◌-◌, ◌<◌, get_or, take, sym, ap, ◌∙◌, arith}
 use Rattle.std.proofs.lemmas.List.{get_or-map, length-map, length-take, take-map, get_or-take}
-use Rattle.levels.specs.Search.{newest_of, Clear}
+use Rattle.levels.specs.Search.{newest_of}
 use Rattle.levels.specs.Entries.{names, nexts}
 use Rattle.levels.proofs.Searching.{clear_none, newest_found}
-use Rattle.levels.proofs.Walking.{Walked, walked_part, walked_head, walked_next, next_low}
+use Rattle.levels.proofs.Walking.{walked_part, walked_head, walked_next, next_low}
 use Rattle.levels.proofs.chains.walk.Goals as goal
 
 pub loop-i-init : goal.loop-i-init

@@ -1,4 +1,4 @@
-use Rattle.std.proofs.Common.{◌≡◌, ◌≤◌, true, length, Ok, sym, refl, ap, ◌∙◌, arith, rules}
+use Rattle.std.proofs.Common.{◌≡◌, ◌≤◌, true, length, Ok, sym, refl, ap, ◌∙◌, arith}
 use Rattle.walk.specs.Outcomes.{outcome}
 use Rattle.walk.specs.Examined.{recorded}
 use Rattle.walk.proofs.Walked as walked

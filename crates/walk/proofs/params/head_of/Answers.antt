@@ -1,4 +1,4 @@
-use Rattle.std.proofs.Common.{◌≡◌, ap, ◌∙◌, rules}
+use Rattle.std.proofs.Common.{ap, ◌∙◌}
 use Rattle.frames.specs.Sheets.{frames_of}
 use Rattle.walk.specs.Examined.{sheet_packed}
 use Rattle.walk.proofs.HeadCodes as codes

@@ -1,4 +1,4 @@
-use Rattle.std.proofs.Common.{◌≡◌, sym, ap, ◌∙◌, arith, rules}
+use Rattle.std.proofs.Common.{sym, ◌∙◌}
 use Rattle.walk.proofs.Nexts as nexts
 use Rattle.walk.proofs.HeadCodes as codes
 use Rattle.walk.proofs.params.packed.Goals as goal

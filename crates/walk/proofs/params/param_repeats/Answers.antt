@@ -1,4 +1,4 @@
-use Rattle.std.proofs.Common.{◌≡◌, ◌+◌, get_or, is_some, sym, ap, ◌∙◌, arith, rules}
+use Rattle.std.proofs.Common.{◌+◌, get_or, is_some, sym, ap, ◌∙◌, arith}
 use Rattle.syntax.specs.Writing.{blank}
 use Rattle.levels.specs.Search.{newest_of}
 use Rattle.walk.specs.Machines.{names_of}

@@ -1,4 +1,3 @@
-use Rattle.syntax.specs.declared.frame.Frame.{Frame}
 use Rattle.std.proofs.Common.{◌≡◌, reverse, take, drop}
 use Rattle.walk.specs.Machines.{names_of}
 use Rattle.walk.specs.Params.{param_frames, repeats, param_twice}

@@ -1,4 +1,4 @@
-use Rattle.std.proofs.Common.{◌≡◌, ℕ, ◌+◌, ◌<◌, ◌≤◌, List, [], length, get_or, replicate, sym, refl, ap, ◌∙◌, subst, arith, rules}
+use Rattle.std.proofs.Common.{ℕ, replicate, sym, refl, ap, ◌∙◌, subst, arith, rules}
 use Rattle.levels.specs.Store.{with_levels}
 use Rattle.walk.specs.Outcomes.{verdict_of, column_of, levels_of}
 use Rattle.walk.specs.Machines.{state_of, Within}

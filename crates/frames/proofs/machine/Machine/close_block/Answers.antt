@@ -1,5 +1,4 @@
-use Rattle.std.proofs.Common.{◌≡◌, sym, refl, ap, ◌∙◌, arith}
-use Rattle.syntax.specs.Form.{State}
+use Rattle.std.proofs.Common.{refl, ap, arith}
 use Rattle.frames.proofs.Stack.{close_block, close_not_block_at}
 use Rattle.frames.proofs.machine.Machine.close_block.Goals as goal
 

@@ -1,4 +1,4 @@
-use Rattle.std.proofs.Common.{◌≡◌, sym, refl, ◌∙◌, subst, arith}
+use Rattle.std.proofs.Common.{sym, refl, ◌∙◌, subst, arith}
 use Rattle.frames.specs.States.{state_of, Does}
 use Rattle.syntax.proofs.Turns.{not_ended, step_ended, step_unknown, step_unfit, step_fit}
 use Rattle.frames.proofs.machine.Machine.take_frame.Goals as goal

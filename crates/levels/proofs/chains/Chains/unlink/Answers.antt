@@ -1,4 +1,4 @@
-use Rattle.std.proofs.Common.{◌≡◌, ◌-◌, ap, arith}
+use Rattle.std.proofs.Common.{◌-◌, ap, arith}
 use Rattle.levels.proofs.Chaining.{linked_less}
 use Rattle.levels.proofs.chains.Chains.unlink.Goals as goal
 

@@ -1,7 +1,7 @@
-use Rattle.std.proofs.Common.{◌≡◌, ◌<◌, length, Err, ap, ◌∙◌, arith, rules}
+use Rattle.std.proofs.Common.{◌<◌, length, Err, ap, ◌∙◌, arith, rules}
 use Rattle.std.proofs.lemmas.Result.{err_from_is_err_and}
 use Rattle.levels.specs.Layout.{layout}
-use Rattle.levels.proofs.Declaring.{Placed, declare_not, declare_placed, declare_made}
+use Rattle.levels.proofs.Declaring.{declare_not, declare_placed, declare_made}
 use Rattle.levels.proofs.Chaining.{linked_more}
 use Rattle.levels.proofs.chains.ChainsDeclaring.declare.Goals as goal
 

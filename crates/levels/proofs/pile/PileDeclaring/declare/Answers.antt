@@ -1,7 +1,7 @@
-use Rattle.std.proofs.Common.{◌≡◌, ◌<◌, length, Err, ap, ◌∙◌, arith, rules}
+use Rattle.std.proofs.Common.{◌<◌, length, Err, ap, ◌∙◌, arith, rules}
 use Rattle.std.proofs.lemmas.Result.{err_from_is_err_and}
 use Rattle.levels.specs.Layout.{layout}
-use Rattle.levels.proofs.Declaring.{Placed, declare_not, declare_placed, declare_made}
+use Rattle.levels.proofs.Declaring.{declare_not, declare_placed, declare_made}
 use Rattle.levels.proofs.pile.PileDeclaring.declare.Goals as goal
 
 pub returns-in_err-place : goal.returns-in_err-place

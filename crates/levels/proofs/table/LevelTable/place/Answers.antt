@@ -1,4 +1,4 @@
-use Rattle.std.proofs.Common.{◌≡◌, sym, ap, arith}
+use Rattle.std.proofs.Common.{sym, ap, arith}
 use Rattle.levels.specs.Refusals.{answer_with}
 use Rattle.levels.proofs.Tabling.{no_place_repeated, no_place_full, no_place_not}
 use Rattle.levels.proofs.table.LevelTable.place.Goals as goal

@@ -1,4 +1,4 @@
-use Rattle.std.proofs.Common.{◌≡◌, ℕ, ◌<◌, false, Some, None, sym, ap, ◌∙◌, subst, ⊎_elim, arith}
+use Rattle.std.proofs.Common.{◌≡◌, ℕ, ◌<◌, false, Some, sym, ap, ◌∙◌, ⊎_elim, arith}
 use Rattle.levels.specs.Refusals.{answer}
 use Rattle.levels.specs.Store.{stands, declared, declare_refused}
 use Rattle.levels_tests.specs.Single.{single}

@@ -1,4 +1,4 @@
-use Rattle.std.proofs.Common.{◌≡◌, sym, ap, ◌∙◌, arith}
+use Rattle.std.proofs.Common.{sym, ap, arith}
 use Rattle.levels.specs.Refusals.{answer}
 use Rattle.levels_tests.proofs.Singles.{deep, not_deep, entered_more, entered_not}
 use Rattle.levels_tests.proofs.single.SingleDeclaring.enter.Goals as goal

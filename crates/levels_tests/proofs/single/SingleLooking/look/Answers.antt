@@ -1,4 +1,4 @@
-use Rattle.std.proofs.Common.{◌≡◌, sym, ap, ◌∙◌}
+use Rattle.std.proofs.Common.{sym, ap, ◌∙◌}
 use Rattle.levels.specs.Store.{looked}
 use Rattle.levels_tests.specs.Single.{single}
 use Rattle.levels_tests.proofs.Singles.{looked_none, looked_same, looked_other}

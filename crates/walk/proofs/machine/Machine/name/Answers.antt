@@ -1,4 +1,4 @@
-use Rattle.std.proofs.Common.{◌≡◌, ◌+◌, ◌-◌, Ok, sym, ap, ◌∙◌, subst, rules}
+use Rattle.std.proofs.Common.{◌+◌, ◌-◌, Ok, sym, ap, ◌∙◌, subst}
 use Rattle.walk.specs.Stacks.{things_of, types_of}
 use Rattle.walk.specs.Step.{named}
 use Rattle.walk.specs.Machines.{coming_at, Awaits, Within}

@@ -1,4 +1,4 @@
-use Rattle.std.proofs.Common.{◌≡◌, is_some, sym, ap, ◌∙◌, rules}
+use Rattle.std.proofs.Common.{is_some, sym, ap, ◌∙◌}
 use Rattle.walk.specs.Stacks.{things_of}
 use Rattle.walk.proofs.Earlier as earlier
 use Rattle.walk.proofs.machine.Machine.repeated.Goals as goal

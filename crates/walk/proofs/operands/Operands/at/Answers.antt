@@ -1,8 +1,6 @@
-use Rattle.std.proofs.Common.{◌≡◌, ℕ, ◌+◌, ◌-◌, ◌/◌, ◌%◌, ◌<◌, ◌≤◌, length, get_or, drop, set, sym, refl, ap, ◌∙◌, arith, rules}
+use Rattle.std.proofs.Common.{sym, ◌∙◌, arith}
 use Rattle.std.proofs.lemmas.List.{get_or_default}
-use Rattle.syntax.specs.Form.{finish}
-use Rattle.rules.specs.Walk.{alone}
-use Rattle.walk.specs.Stacks.{down, types_of, things_of}
+use Rattle.walk.specs.Stacks.{types_of}
 use Rattle.walk.proofs.Downs as downs
 use Rattle.walk.proofs.operands.Operands.at.Goals as goal
 

@@ -1,4 +1,4 @@
-use Rattle.std.proofs.Common.{◌≡◌, ◌-◌, length, get_or, sym, ap, ◌∙◌, arith, rules}
+use Rattle.std.proofs.Common.{◌-◌, get_or, sym, ap, ◌∙◌, arith}
 use Rattle.heads.specs.Heads.{parameters_of}
 use Rattle.walk.specs.Stacks.{types_of}
 use Rattle.walk.proofs.Fits as fits

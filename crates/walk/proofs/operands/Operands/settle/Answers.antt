@@ -1,8 +1,5 @@
-use Rattle.std.proofs.Common.{◌≡◌, ℕ, ◌+◌, ◌-◌, ◌/◌, ◌%◌, ◌<◌, ◌≤◌, length, get_or, drop, set, sym, refl, ap, ◌∙◌, arith, rules}
+use Rattle.std.proofs.Common.{◌-◌, arith}
 use Rattle.std.proofs.lemmas.List.{length-set}
-use Rattle.syntax.specs.Form.{finish}
-use Rattle.rules.specs.Walk.{alone}
-use Rattle.walk.specs.Stacks.{down, types_of, things_of}
 use Rattle.walk.proofs.Downs as downs
 use Rattle.walk.proofs.operands.Operands.settle.Goals as goal
 

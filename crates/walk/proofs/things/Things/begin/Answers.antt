@@ -1,10 +1,7 @@
-use Rattle.std.proofs.Common.{◌≡◌, ℕ, ◌+◌, ◌-◌, ◌/◌, ◌%◌, ◌<◌, ◌≤◌, [], length, get_or, drop, set, sym, refl, ap, ◌∙◌, arith, rules}
+use Rattle.std.proofs.Common.{arith}
 use Rattle.std.proofs.lemmas.List.{length-set}
-use Rattle.syntax.specs.Form.{finish}
-use Rattle.rules.specs.Walk.{alone}
-use Rattle.walk.specs.Stacks.{down, types_of, things_of}
 use Rattle.walk.proofs.Downs as downs
-use Rattle.syntax.specs.declared.stages.Unfinished.TheVariants.{Block, Loop, Choice}
+use Rattle.syntax.specs.declared.stages.Unfinished.TheVariants.{Block}
 use Rattle.walk.proofs.things.Things.begin.Goals as goal
 
 pub bounds-self-self : goal.bounds-self-self

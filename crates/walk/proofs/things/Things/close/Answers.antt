@@ -1,10 +1,7 @@
-use Rattle.std.proofs.Common.{◌≡◌, ℕ, ◌+◌, ◌-◌, ◌/◌, ◌%◌, ◌<◌, ◌≤◌, [], length, get_or, drop, set, sym, refl, ap, ◌∙◌, arith, rules}
-use Rattle.std.proofs.lemmas.List.{length-set}
+use Rattle.std.proofs.Common.{sym, ap, ◌∙◌, arith}
 use Rattle.syntax.specs.Form.{finish}
-use Rattle.rules.specs.Walk.{alone}
-use Rattle.walk.specs.Stacks.{down, types_of, things_of}
 use Rattle.walk.proofs.Downs as downs
-use Rattle.syntax.specs.declared.stages.Unfinished.TheVariants.{Block, Loop, Choice}
+use Rattle.syntax.specs.declared.stages.Unfinished.TheVariants.{Block}
 use Rattle.walk.proofs.things.Things.close.Goals as goal
 
 pub overflow_sub-self : goal.overflow_sub-self

@@ -1,9 +1,5 @@
-use Rattle.std.proofs.Common.{◌≡◌, ℕ, ◌+◌, ◌-◌, ◌/◌, ◌%◌, ◌<◌, ◌≤◌, length, get_or, drop, set, sym, refl, ap, ◌∙◌, arith, rules}
-use Rattle.syntax.specs.Form.{finish}
-use Rattle.rules.specs.Walk.{alone}
-use Rattle.walk.specs.Stacks.{down, types_of, things_of}
-use Rattle.walk.proofs.Downs as downs
-use Rattle.syntax.specs.declared.stages.Unfinished.TheVariants.{Block, Loop, Choice}
+use Rattle.std.proofs.Common.{refl}
+use Rattle.walk.specs.Stacks.{down}
 use Rattle.walk.proofs.things.Things.new.Goals as goal
 
 pub returns : goal.returns
