@@ -42,41 +42,41 @@ returns-then-capacity-lt-ROOM g c =
     let d = refused_does book (check fl cl a b) f (check_rooms (working_signatures book) fl cl a b c.if-frames-ne-AREA.false c.if-column-ne-AREA.false small) in
     record { does = d; heads = refl {a = g.H.Looking.meaning c.args.heads.now}; variables = refl {a = g.S.Looking.meaning c.args.variables.now}; history = promises.calls book (check fl cl a b) (refused f) book d; law = law }
 
-pub walk-due-walked-requires : goal.walk-due-walked-requires
-walk-due-walked-requires g c =
+pub walk_due-walked-requires : goal.walk_due-walked-requires
+walk_due-walked-requires g c =
     let table = c.args.self.now.table in
     record {
       frames = c.if-frames-ne-AREA.false;
       column = c.if-column-ne-AREA.false;
       room = omega (arith, c.capacity-else-capacity-lt-ROOM.ensures.result, c.if-capacity-lt-ROOM-2.false);
-      held = held_left table.records table.heads table.apart (g.H.Looking.meaning c.args.heads.now) (g.H.Looking.meaning c.declare-heads.new.heads) c.declare-heads.ensures;
+      held = held_left table.records table.heads table.apart (g.H.Looking.meaning c.args.heads.now) (g.H.Looking.meaning c.declare_heads.new.heads) c.declare_heads.ensures;
     }
 
 pub returns : goal.returns
 returns g c =
     let fs = c.args.frames.now in
     let k = c.args.column.now in
-    let k' = c.walk-due-walked.new.column in
+    let k' = c.walk_due-walked.new.column in
     let a = (g.H.Looking.meaning c.args.heads.now).capacity in
     let b = (g.S.Looking.meaning c.args.variables.now).capacity in
     let l : 256 ≤ a = omega (arith, c.capacity.ensures.result, c.if-capacity-lt-ROOM.false) in
     let m : 256 ≤ b = omega (arith, c.capacity-else-capacity-lt-ROOM.ensures.result, c.if-capacity-lt-ROOM-2.false) in
     let rs = c.args.self.now.table.records in
     let v = c.args.self.now.valid in
-    let after = c.walk-due-walked.new.self in
-    let n = c.walk-due-walked.result in
-    let o = map_some told c.lowest-fault-fault.result in
-    let v' = c.is-none-self.result in
+    let after = c.walk_due-walked.new.self in
+    let n = c.walk_due-walked.result in
+    let o = map_some told c.lowest_fault-fault.result in
+    let v' = c.is_none-self.result in
     let book = state c.args.self.now fs k in
     let call = check (length fs) (length k) a b in
-    let w = c.walk-due-walked.ensures in
-    let d = check_does rs after.records v v' fs k k' n o after.full w.result w.records w.column c.lowest-fault-fault.ensures
-    (valid_told c.lowest-fault-fault.result v' c.is-none-self.ensures) call
+    let w = c.walk_due-walked.ensures in
+    let d = check_does rs after.records v v' fs k k' n o after.full w.result w.records w.column c.lowest_fault-fault.ensures
+    (valid_told c.lowest_fault-fault.result v' c.is_none-self.ensures) call
     (check_accepted (working_signatures book) (length fs) (length k) a b c.if-frames-ne-AREA.false c.if-column-ne-AREA.false l m)
     in
     record {
       does = d;
-      heads = c.declare-heads.ensures;
+      heads = c.declare_heads.ensures;
       variables = w.variables ∙ variables_same rs false v fs k (g.S.Looking.meaning c.args.variables.now);
       history = promises.calls book call (checked n o) (state (record { table = after; valid = v' }) fs k') d;
       law = law;

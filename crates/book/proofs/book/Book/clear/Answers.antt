@@ -21,10 +21,10 @@ returns-then-frames-ne-AREA c =
     kept _ _ _ _
     (refused_does st _ _ (clear_32 (working_signatures st) c.args.sheet (length c.args.frames.now) (length c.args.column.now) c.if-sheet-gt-LAST.false c.then-frames-ne-AREA.either))
 
-pub returns-then-is-none : goal.returns-then-is-none
-returns-then-is-none c =
+pub returns-then-is_none : goal.returns-then-is_none
+returns-then-is_none c =
     let st = state c.args.self.now c.args.frames.now c.args.column.now in
-    let none : filled (working_signatures st c.args.sheet) ≡ false = ap filled (sym c.signature-old.ensures) ∙ signed_filled c.signature-old.result ∙ c.if-is-none.ensures in
+    let none : filled (working_signatures st c.args.sheet) ≡ false = ap filled (sym c.signature-old.ensures) ∙ signed_filled c.signature-old.result ∙ c.if-is_none.ensures in
     kept _ _ _ _
     (refused_does st _ _
     (clear_35 (working_signatures st) c.args.sheet (length c.args.frames.now) (length c.args.column.now) c.if-sheet-gt-LAST.false c.if-frames-ne-AREA.false c.if-column-ne-AREA.false none))
@@ -37,12 +37,12 @@ returns c =
     let s = c.args.sheet in
     let st = state c.args.self.now f k in
     let marks = c.mark.new.self.records in
-    let there : filled (working_signatures st s) ≡ true = ap filled (sym c.signature-old.ensures) ∙ signed_filled c.signature-old.result ∙ c.if-is-none.ensures in
+    let there : filled (working_signatures st s) ≡ true = ap filled (sym c.signature-old.ensures) ∙ signed_filled c.signature-old.result ∙ c.if-is_none.ensures in
     let l : s < 32 = omega (arith, c.if-sheet-gt-LAST.false) in
     let after =
-    ap (λ q. state_of q false c.fill-part.new.area c.fill-part-2.new.area) c.replace.ensures
+    ap (λ q. state_of q false c.fill_part.new.area c.fill_part-2.new.area) c.replace.ensures
     ∙ state_after rs c.args.self.now.valid f k s (signed c.signature-old.result) None marks l c.mark.new.self.full c.signature-old.ensures c.mark.ensures empty
-    (replicate 256 blank) c.fill-part.new.area c.fill-part-2.new.area c.fill-part.ensures (c.fill-part-2.ensures ∙ ap (λ z. with_part s z k) zeros_part) in
+    (replicate 256 blank) c.fill_part.new.area c.fill_part-2.new.area c.fill_part.ensures (c.fill_part-2.ensures ∙ ap (λ z. with_part s z k) zeros_part) in
     kept _ _ _ _
     (emptied_does st _ _ s
     (clear_done (working_signatures st) s (length f) (length k) c.if-sheet-gt-LAST.false c.if-frames-ne-AREA.false c.if-column-ne-AREA.false there)

@@ -27,5 +27,5 @@ returns c =
     let w = c.in-Ok.ensures.does in
     let d =
     formed_does st c.args.sheet c.args.text.now c.args.room.now c.read.new.frames (length c.args.frames.now) (length c.args.column.now) c.in-Ok.count w
-    c.form.new.into (edited c.put.result) (state c.put.new.self c.put.new.frames c.put.new.column) c.in-default.ensures.leaves.shows c.put.ensures.does in
+    c.form.new.into (edited c.put.result) (state c.put.new.self c.put.new.frames c.put.new.column) c.in_default.ensures.leaves.shows c.put.ensures.does in
     record { does = d; leaves = room_left c.args.text.now c.args.room.now c.read.new.frames (Ok c.in-Ok.count) w; history = promises.calls _ _ _ _ d }

@@ -28,11 +28,11 @@ returns-then-frames-ne-AREA c =
     (refused_does st _ _
     (put_32 (working_signatures st) c.args.sheet (sheet_from c.args.formed.now) (length c.args.frames.now) (length c.args.column.now) c.if-sheet-gt-LAST.false c.then-frames-ne-AREA.either))
 
-pub returns-then-named-elsewhere : goal.returns-then-named-elsewhere
-returns-then-named-elsewhere c =
+pub returns-then-named_elsewhere : goal.returns-then-named_elsewhere
+returns-then-named_elsewhere c =
     let st = state c.args.self.now c.args.frames.now c.args.column.now in
     let taken : elsewhere cpp (working_signatures st) c.args.sheet (name_of (sheet_from c.args.formed.now)) ≡ true =
-    ap (elsewhere cpp (working_signatures st) c.args.sheet) (sym c.name-name.ensures.result) ∙ sym c.if-named-elsewhere.ensures in
+    ap (elsewhere cpp (working_signatures st) c.args.sheet) (sym c.name-name.ensures.result) ∙ sym c.if-named_elsewhere.ensures in
     kept _ _ _ _
     (refused_does st _ _
     (put_33 (working_signatures st) c.args.sheet (sheet_from c.args.formed.now) (length c.args.frames.now) (length c.args.column.now) c.if-sheet-gt-LAST.false c.if-frames-ne-AREA.false c.if-column-ne-AREA.false taken))
@@ -41,7 +41,7 @@ pub returns-in-Some : goal.returns-in-Some
 returns-in-Some c =
     let st = state c.args.self.now c.args.frames.now c.args.column.now in
     let free : elsewhere cpp (working_signatures st) c.args.sheet (name_of (sheet_from c.args.formed.now)) ≡ false =
-    ap (elsewhere cpp (working_signatures st) c.args.sheet) (sym c.name-name.ensures.result) ∙ sym c.if-named-elsewhere.ensures in
+    ap (elsewhere cpp (working_signatures st) c.args.sheet) (sym c.name-name.ensures.result) ∙ sym c.if-named_elsewhere.ensures in
     let twice : repeated_in (sheet_from c.args.formed.now) ≡ Some c.in-Some.place = sym (repeated_told c.args.formed.now) ∙ sym c.in-Some.ensures.result in
     kept _ _ _ _
     (refused_does st _ _
@@ -51,14 +51,14 @@ pub replace-requires : goal.replace-requires
 replace-requires c =
     let x = c.args.formed.now in
     let l : c.args.sheet < 32 = omega (arith, c.if-sheet-gt-LAST.false) in
-    let new = Some (c.name-name.result, c.head-of-head.result) in
+    let new = Some (c.name-name.result, c.head_of-head.result) in
     record {
       sheet = l;
-      head = ap is_head (c.head-of-head.ensures.result ∙ packed_number x) ∙ number_is_head (sheet_from x);
+      head = ap is_head (c.head_of-head.ensures.result ∙ packed_number x) ∙ number_is_head (sheet_from x);
       free =
           free_apart c.args.self.now.table.records c.args.self.now.valid c.args.frames.now c.args.column.now c.args.sheet (signed c.signature-old.result) new c.mark.new.self.records l
           c.mark.new.self.full c.signature-old.ensures c.mark.ensures
-          (record { filled = true; name = c.name-name.result; head = c.head-of-head.result; end = c.count.result - 1; due = true; kept = Valid }) c.if-named-elsewhere.ensures;
+          (record { filled = true; name = c.name-name.result; head = c.head_of-head.result; end = c.count.result - 1; due = true; kept = Valid }) c.if-named_elsewhere.ensures;
     }
 
 pub returns : goal.returns
@@ -70,20 +70,20 @@ returns c =
     let s = c.args.sheet in
     let st = state c.args.self.now f k in
     let n = c.name-name.result in
-    let h = c.head-of-head.result in
+    let h = c.head_of-head.result in
     let e = c.count.result - 1 in
     let named = c.name-name.ensures.result in
-    let headed : h ≡ head_number (sheet_from x) = c.head-of-head.ensures.result ∙ packed_number x in
+    let headed : h ≡ head_number (sheet_from x) = c.head_of-head.ensures.result ∙ packed_number x in
     let ends : suc e ≡ length (frames_of x) = omega (arith, c.count.ensures.result, c.count.ensures.bound) in
     let l : s < 32 = omega (arith, c.if-sheet-gt-LAST.false) in
     let free : elsewhere cpp (working_signatures st) s (name_of (sheet_from x)) ≡ false =
-    ap (elsewhere cpp (working_signatures st) s) (sym named) ∙ sym c.if-named-elsewhere.ensures in
-    let once : repeated_in (sheet_from x) ≡ None = sym (repeated_told x) ∙ sym c.in-default.ensures.result in
+    ap (elsewhere cpp (working_signatures st) s) (sym named) ∙ sym c.if-named_elsewhere.ensures in
+    let once : repeated_in (sheet_from x) ≡ None = sym (repeated_told x) ∙ sym c.in_default.ensures.result in
     let after =
-    ap (λ q. state_of q false c.write-part.new.area c.fill-part.new.area) c.replace.ensures
+    ap (λ q. state_of q false c.write_part.new.area c.fill_part.new.area) c.replace.ensures
     ∙ state_after rs c.args.self.now.valid f k s (signed c.signature-old.result) (Some (n, h)) c.mark.new.self.records l c.mark.new.self.full c.signature-old.ensures c.mark.ensures
-    (put_record x n h e named headed ends) (sheet_of x) c.write-part.new.area c.fill-part.new.area
-    (c.write-part.ensures ∙ ap (λ b. with_part s b f) c.sheet.ensures.result) (c.fill-part.ensures ∙ ap (λ z. with_part s z k) zeros_part) in
+    (put_record x n h e named headed ends) (sheet_of x) c.write_part.new.area c.fill_part.new.area
+    (c.write_part.ensures ∙ ap (λ b. with_part s b f) c.sheet.ensures.result) (c.fill_part.ensures ∙ ap (λ z. with_part s z k) zeros_part) in
     kept _ _ _ _
     (wrote_does st _ _ s (sheet_from x)
     (put_done (working_signatures st) s (sheet_from x) (length f) (length k) c.if-sheet-gt-LAST.false c.if-frames-ne-AREA.false c.if-column-ne-AREA.false free once)

@@ -33,7 +33,7 @@ returns-then-i-self c =
       | then-i-self-via-then-i-self w ↦ asked_no_frame i w.if-i-self.true
       | then-i-self-via-else-i-self+then-i-self-2 w ↦ asked_no_number i w.if-i-self-2.true
       | then-i-self-via-else-i-self+else-i-self-2+then-not-is-expression w ↦
-          asked_unspoken i w.if-i-self.false _ (sym w.is-expression.ensures ∙ w.if-not-is-expression.true)
+          asked_unspoken i w.if-i-self.false _ (sym w.is_expression.ensures ∙ w.if-not-is_expression.true)
     ] in
     record { result = e; history = question_promised _ _ _ _ e }
 
@@ -41,6 +41,6 @@ pub returns : goal.returns
 returns c =
     let q = c.args.self.now in
     let i = within q.table.now.records true q.frames.now q.column.now c.args.sheet c.args.place c.at-record.result c.at-record.ensures c.if-sheet-gt-LAST.false c.if-not-record.false c.if-place-record.false (omega arith) in
-    let e : Ok c.as-type.result ≡ asked cpp (valid_state q.table.now q.frames.now q.column.now) c.args.sheet c.args.place =
-    asked_spoken i c.if-i-self.false _ c.if-not-is-expression.ensures c.as-type.result (sym c.as-type.ensures) in
+    let e : Ok c.as_type.result ≡ asked cpp (valid_state q.table.now q.frames.now q.column.now) c.args.sheet c.args.place =
+    asked_spoken i c.if-i-self.false _ c.if-not-is_expression.ensures c.as_type.result (sym c.as_type.ensures) in
     record { result = e; history = question_promised _ _ _ _ e }

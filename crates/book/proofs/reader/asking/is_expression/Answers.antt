@@ -12,9 +12,9 @@ pub returns-in-32-to-42·2 : goal.returns-in-32-to-42·2
 unfolding expression
 returns-in-32-to-42·2 c = grind (arith, nat_tests)
 
-pub returns-in-default : goal.returns-in-default
+pub returns-in_default : goal.returns-in_default
 unfolding expression
-returns-in-default c = grind (arith, nat_tests)
+returns-in_default c = grind (arith, nat_tests)
 
 pub returns-in-default·2 : goal.returns-in-default·2
 unfolding expression

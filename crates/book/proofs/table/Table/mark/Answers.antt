@@ -26,12 +26,12 @@ loop-t-preserved c =
     elim c.if-record.branch [
       | then-record+then-calls-changed x ↦
           subst To (sym (ap (λ (q : Table). q.records) x.self-is ∙ x.renew.ensures))
-          (turn_marks o w fs old new t c.loop-t.invariant r c.at-record.ensures l x.if-record.true x.own-frames.result.now x.own-frames.ensures (sym x.if-calls-changed.ensures))
+          (turn_marks o w fs old new t c.loop-t.invariant r c.at-record.ensures l x.if-record.true x.own_frames.result.now x.own_frames.ensures (sym x.if-calls_changed.ensures))
       | else-record x ↦
           subst To (sym (ap (λ (q : Table). q.records) x.self-is))
           (elim x.else-record.branch [
             | else-record-via-then-record+else-calls-changed y ↦
-                turn_passes o w fs old new t c.loop-t.invariant r c.at-record.ensures y.if-record.true y.own-frames.result.now y.own-frames.ensures (sym y.if-calls-changed.ensures)
+                turn_passes o w fs old new t c.loop-t.invariant r c.at-record.ensures y.if-record.true y.own_frames.result.now y.own_frames.ensures (sym y.if-calls_changed.ensures)
             | else-record-via-else-record y ↦ turn_skips o w fs old new t c.loop-t.invariant r c.at-record.ensures y.if-record.false
           ])
     ]

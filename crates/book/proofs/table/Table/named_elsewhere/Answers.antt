@@ -43,4 +43,4 @@ loop-i-smaller c =
 
 pub returns : goal.returns
 returns c =
-    found_none c.args.self.now.records c.args.name c.args.self.now.full c.args.sheet c.loop-i.end c.loop-i.invariant.0 c.in-default.ensures.law c.loop-i.invariant.1
+    found_none c.args.self.now.records c.args.name c.args.self.now.full c.args.sheet c.loop-i.end c.loop-i.invariant.0 c.in_default.ensures.law c.loop-i.invariant.1

@@ -3,5 +3,5 @@ use Rattle.std.proofs.Common.{refl}
 use Rattle.records.proofs.Rows.{new_headed, new_apart}
 use Rattle.book.proofs.table.Table.new.Goals as goal
 
-pub invariant-of-result : goal.invariant-of-result
-invariant-of-result c = (refl, (new_headed, (new_apart, tt)))
+pub invariant_of-result : goal.invariant_of-result
+invariant_of-result c = (refl, (new_headed, (new_apart, tt)))

@@ -4,8 +4,8 @@ use Rattle.records.specs.Records.{empty, renewed}
 use Rattle.records.proofs.Rows.{headed_after, apart_from, apart_after}
 use Rattle.book.proofs.table.Table.renew.Goals as goal
 
-pub invariant-of-self : goal.invariant-of-self
-invariant-of-self c =
+pub invariant_of-self : goal.invariant_of-self
+invariant_of-self c =
     let table = c.args.self.now in
     let s = c.args.sheet in
     let row = renewed (get_or table.records s empty) c.args.kept c.args.due in

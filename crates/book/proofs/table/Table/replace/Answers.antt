@@ -3,8 +3,8 @@ use Rattle.std.proofs.Common.{◌<◌, length, ◌∙◌, arith, length-set}
 use Rattle.records.proofs.Rows.{headed_after, apart_after}
 use Rattle.book.proofs.table.Table.replace.Goals as goal
 
-pub invariant-of-self : goal.invariant-of-self
-invariant-of-self c =
+pub invariant_of-self : goal.invariant_of-self
+invariant_of-self c =
     let table = c.args.self.now in
     let within : c.args.sheet < length table.records = omega (arith, table.full, c.requires.sheet) in (
       length-set table.records c.args.sheet c.args.row ∙ table.full,

@@ -10,13 +10,13 @@ use Rattle.book.proofs.table.Table.walk_due.Goals.{then-record+then-record-2, el
 pub loop-t-init : goal.loop-t-init
 loop-t-init g c = settled_start c.args.self.now.records c.args.frames.now c.args.column.now (g.S.Looking.meaning c.args.variables.now)
 
-pub walk-sheet-verdict-requires : goal.walk-sheet-verdict-requires
-walk-sheet-verdict-requires g c =
+pub walk_sheet-verdict-requires : goal.walk_sheet-verdict-requires
+walk_sheet-verdict-requires g c =
     let same = settled_capacity (g.S.Looking.meaning c.args.variables.now) (g.S.Looking.meaning c.loop-t.variables) c.loop-t.invariant in
     record { sheet = c.loop-t-test.true; frames = c.requires.frames; column = c.loop-t.auto.column ∙ c.requires.column; room = omega (arith, same, c.requires.room) }
 
-pub overflow-add-walked : goal.overflow-add-walked
-overflow-add-walked g c = omega (arith, settled_few c.loop-t.invariant, c.loop-t-test.true)
+pub overflow_add-walked : goal.overflow_add-walked
+overflow_add-walked g c = omega (arith, settled_few c.loop-t.invariant, c.loop-t-test.true)
 
 pub loop-t-preserved : goal.loop-t-preserved
 loop-t-preserved g c =
@@ -35,8 +35,8 @@ loop-t-preserved g c =
       | then-record+then-record-2 w ↦
           let l : t < length rs = omega (arith, c.loop-t.self.full, c.loop-t-test.true) in
           settled_same rs₀ fs k₀ s₀ {t = t + 1} refl (ap (λ (q : Table). q.records) w.self-is) w.column-is (ap meaning w.variables-is) w.walked-is
-          (settled_walked rs₀ fs k₀ s₀ t rs k s n c.loop-t.invariant r c.at-record.ensures w.walk-sheet-verdict.result w.renew.new.self.records w.walk-sheet-verdict.new.column (meaning w.walk-sheet-verdict.new.variables)
-          l w.if-record.true w.if-record-2.true (w.walk-sheet-verdict.ensures (heads_of (signatures_of rs₀)) c.requires.held) w.renew.ensures)
+          (settled_walked rs₀ fs k₀ s₀ t rs k s n c.loop-t.invariant r c.at-record.ensures w.walk_sheet-verdict.result w.renew.new.self.records w.walk_sheet-verdict.new.column (meaning w.walk_sheet-verdict.new.variables)
+          l w.if-record.true w.if-record-2.true (w.walk_sheet-verdict.ensures (heads_of (signatures_of rs₀)) c.requires.held) w.renew.ensures)
       | else-record w ↦
           settled_same rs₀ fs k₀ s₀ {t = t + 1} refl (ap (λ (q : Table). q.records) w.self-is) w.column-is (ap meaning w.variables-is) w.walked-is
           (settled_idle rs₀ fs k₀ s₀ t rs k s n c.loop-t.invariant r c.at-record.ensures
