@@ -1,6 +1,6 @@
 -- What `read` and `write` answer and leave, and the law that each undoes the other.
 use Rattle.std.specs.Prelude.{◌≡◌, ℕ, ◌*◌, ◌<◌, ◌≤◌, ◌⊎◌, ◌↔◌, List, [], ◌++◌, length, take, drop, Ok, Err, Result, ◌≢◌}
-use Rattle.std.specs.List.{AllByRecursion as All}
+use Rattle.std.specs.List.{AllByRecursion}
 use Rattle.syntax.specs.declared.frame.Frame.{Frame}
 use Rattle.syntax.specs.declared.fault.Fault.{Fault}
 use Rattle.codec.specs.Text.{line_of, text_of, Fit}
@@ -15,7 +15,7 @@ pub record Begun (text : List ℕ) (before after : List Frame) (n : ℕ) (rest :
   pub size : length after ≡ length before
   pub within : n ≤ length before
   pub front : text ≡ text_of (take n after) ++ rest
-  pub fit : All Fit (take n after)
+  pub fit : AllByRecursion Fit (take n after)
   pub kept : drop n after ≡ drop n before
 
 -- why reading stops at a line: 12 where the frames are used up, and only else 11, where what comes is no line
@@ -41,7 +41,7 @@ Writes frames before after (Err e) =
 
 -- the text is one that writing produces, of frames for which there is room
 abbrev pub Written : List ℕ → ℕ → Type 0
-Written text room = (fs : List Frame) × (All Fit fs × (length fs ≤ room) × (text ≡ text_of fs))
+Written text room = (fs : List Frame) × (AllByRecursion Fit fs × (length fs ≤ room) × (text ≡ text_of fs))
 
 -- reading and writing undo each other
 pub record Inverse : Type 0 where
@@ -50,7 +50,7 @@ pub record Inverse : Type 0 where
       (text : List ℕ) (before after : List Frame) (r : Result ℕ Fault) → Reads text before after r → ((n : ℕ) × (r ≡ Ok n)) ↔ Written text (length before)
   -- what is written of frames is read as those frames
   pub read_back :
-      (fs : List Frame) (out out' : List ℕ) (m : ℕ) → All Fit fs → Writes fs out out' (Ok m) →
+      (fs : List Frame) (out out' : List ℕ) (m : ℕ) → AllByRecursion Fit fs → Writes fs out out' (Ok m) →
       (before after : List Frame) (r : Result ℕ Fault) → length fs ≤ length before → Reads (take m out') before after r →
       (r ≡ Ok (length fs)) × (after ≡ fs ++ drop (length fs) before)
   -- what is read of a text is written as that text

@@ -1,6 +1,6 @@
 -- The pieces of an input: it is cut after each line that begins 03, and what is left, if anything, is one more piece.
 use Rattle.std.specs.Prelude.{◌≡◌, ℕ, Bool, true, false, cond, ◌&&◌, List, [], ◌∷◌, ◌++◌, ◌==◌, ◌≢◌}
-use Rattle.std.specs.List.{flat_map, AllByRecursion as All}
+use Rattle.std.specs.List.{flat_map, AllByRecursion}
 
 -- a byte more in front of the first line
 abbrev pub onto : ℕ → List (List ℕ) → List (List ℕ)
@@ -40,7 +40,7 @@ together ps = flat_map (λ p. p) ps
 -- the piece's last line begins 03, and none before it does
 abbrev pub EndsWithFirst : List ℕ → Type 0
 EndsWithFirst p =
-    (ls : List (List ℕ)) × ((l : List ℕ) × ((lines p ≡ ls ++ (l ∷ [])) × (ends_sheet l ≡ true) × All (λ m. ends_sheet m ≡ false) ls))
+    (ls : List (List ℕ)) × ((l : List ℕ) × ((lines p ≡ ls ++ (l ∷ [])) × (ends_sheet l ≡ true) × AllByRecursion (λ m. ends_sheet m ≡ false) ls))
 
 -- each but the last ends with its first line that begins 03
 abbrev pub ButLast : List (List ℕ) → Type 0
@@ -51,7 +51,7 @@ ButLast (p ∷ q ∷ ps) = EndsWithFirst p × ButLast (q ∷ ps)
 -- what the pieces of every input are
 pub record Cuts (input : List ℕ) (ps : List (List ℕ)) : Type 0 where
   pub whole : together ps ≡ input
-  pub some : All (λ p. p ≢ []) ps
+  pub some : AllByRecursion (λ p. p ≢ []) ps
   pub ends : ButLast ps
 
 -- every input is cut so

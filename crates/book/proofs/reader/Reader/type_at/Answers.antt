@@ -5,7 +5,7 @@ use Rattle.cpp.specs.Cpp.{cpp}
 use Rattle.records.proofs.Questions.{question_promised, asked_beyond, asked_empty, asked_past, within, asked_no_frame, asked_no_number, asked_unspoken, asked_spoken}
 use Rattle.book.specs.States.{valid_state}
 use Rattle.book.proofs.reader.Reader.type_at.Goals as goal
-use Rattle.book.proofs.reader.Reader.type_at.Goals.{then-not-record-via-then-not-record, then-not-record-via-else-not-record+then-place-record, then-i-self-via-then-i-self, then-i-self-via-else-i-self+then-i-self-2, then-i-self-via-else-i-self+else-i-self-2+then-not-is-expression}
+use Rattle.book.proofs.reader.Reader.type_at.Goals.{then-not-record-via-then-not-record, then-not-record-via-else-not-record+then-place-record, then-i-self-via-then-i-self, then-i-self-via-else-i-self+then-i-self-2, then-i-self-via-else-i-self+else-i-self-2+then-not-is_expression}
 
 pub returns-then-sheet-gt-LAST : goal.returns-then-sheet-gt-LAST
 returns-then-sheet-gt-LAST c =
@@ -32,7 +32,7 @@ returns-then-i-self c =
     elim c.then-i-self.branch [
       | then-i-self-via-then-i-self w ↦ asked_no_frame i w.if-i-self.true
       | then-i-self-via-else-i-self+then-i-self-2 w ↦ asked_no_number i w.if-i-self-2.true
-      | then-i-self-via-else-i-self+else-i-self-2+then-not-is-expression w ↦
+      | then-i-self-via-else-i-self+else-i-self-2+then-not-is_expression w ↦
           asked_unspoken i w.if-i-self.false _ (sym w.is_expression.ensures ∙ w.if-not-is_expression.true)
     ] in
     record { result = e; history = question_promised _ _ _ _ e }

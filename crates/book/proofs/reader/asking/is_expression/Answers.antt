@@ -8,18 +8,18 @@ pub returns-in-32-to-42 : goal.returns-in-32-to-42
 unfolding expression
 returns-in-32-to-42 c = grind (arith, nat_tests)
 
-pub returns-in-32-to-42·2 : goal.returns-in-32-to-42·2
+pub returns-in-32-to-42-2 : goal.returns-in-32-to-42-2
 unfolding expression
-returns-in-32-to-42·2 c = grind (arith, nat_tests)
+returns-in-32-to-42-2 c = grind (arith, nat_tests)
 
 pub returns-in_default : goal.returns-in_default
 unfolding expression
 returns-in_default c = grind (arith, nat_tests)
 
-pub returns-in-default·2 : goal.returns-in-default·2
+pub returns-in_default-2 : goal.returns-in_default-2
 unfolding expression
-returns-in-default·2 c = grind (arith, nat_tests)
+returns-in_default-2 c = grind (arith, nat_tests)
 
-pub returns-in-default·3 : goal.returns-in-default·3
+pub returns-in_default-3 : goal.returns-in_default-3
 unfolding expression
-returns-in-default·3 c = grind (arith, nat_tests)
+returns-in_default-3 c = grind (arith, nat_tests)

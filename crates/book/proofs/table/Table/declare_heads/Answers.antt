@@ -5,7 +5,7 @@ use Rattle.records.specs.Records.{signatures_of}
 use Rattle.records.specs.Stores.{heads_below}
 use Rattle.records.proofs.Declaring.{enter_answered, level_start, same_capacity, level_end, level_kept, declare_answered, level_more}
 use Rattle.book.proofs.table.Table.declare_heads.Goals as goal
-use Rattle.book.proofs.table.Table.declare_heads.Goals.{Then-row, Else-row}
+use Rattle.book.proofs.table.Table.declare_heads.Goals.{then-row, else-row}
 
 pub unwrap-requires : goal.unwrap-requires
 unwrap-requires g c =
@@ -36,10 +36,10 @@ loop-t-preserved g c =
     let same = same_capacity (meaning c.args.heads.now) (meaning c.wipe.new.self) entered c.wipe.ensures.leaves c.enter.ensures.leaves in
     let room : t < entered.capacity = omega (arith, same, c.requires) in
     elim c.if-row.branch [
-      | Then-row w ↦
+      | then-row w ↦
           ap meaning w.heads-is
           ∙ level_more rs t r c.at-row.ensures (meaning c.loop-t.heads) entered c.loop-t.invariant c.args.self.now.apart w.if-row.true room (meaning w.declare.new.self) w.declare.ensures.leaves
-      | Else-row w ↦
+      | else-row w ↦
           ap meaning w.heads-is
           ∙ level_kept rs t r c.at-row.ensures (meaning c.loop-t.heads) entered c.loop-t.invariant w.if-row.false
     ]

@@ -5,7 +5,7 @@ use Rattle.history.specs.Words.{lowest}
 use Rattle.records.specs.Faults.{told}
 use Rattle.records.proofs.Lowest.{lowest_start, lowest_more, lowest_found, kept_at, empty_fault, filled_fault}
 use Rattle.book.proofs.table.Table.lowest_fault.Goals as goal
-use Rattle.book.proofs.table.Table.lowest_fault.Goals.{then-record+in-Valid, Else-record}
+use Rattle.book.proofs.table.Table.lowest_fault.Goals.{then-record+in-Valid, else-record}
 
 pub loop-t-init : goal.loop-t-init
 loop-t-init c = lowest_start (kept_at c.args.self.now.records)
@@ -18,7 +18,7 @@ loop-t-preserved c =
     lowest_more t (kept_at rs) c.loop-t.invariant
     (elim c.if-record.branch [
       | then-record+in-Valid w ↦ filled_fault rs t r c.at-record.ensures Valid w.if-record.true w.in-Valid.is
-      | Else-record w ↦ empty_fault rs t r c.at-record.ensures w.if-record.false
+      | else-record w ↦ empty_fault rs t r c.at-record.ensures w.if-record.false
     ])
 
 pub returns-in-Broken : goal.returns-in-Broken

@@ -9,10 +9,9 @@ invariant_of-self c =
     let table = c.args.self.now in
     let s = c.args.sheet in
     let row = renewed (get_or table.records s empty) c.args.kept c.args.due in
-    let within : s < length table.records = omega (arith, table.full, c.requires) in (
-      length-set table.records s row ∙ table.full,
-      (
-        headed_after table.records s row within (table.heads s) table.heads,
-        (apart_after table.records s row within (apart_from table.records table.apart s) table.apart, tt),
-      ),
-    )
+    let within : s < length table.records = omega (arith, table.full, c.requires) in
+    record {
+      full = length-set table.records s row ∙ table.full;
+      heads = headed_after table.records s row within (table.heads s) table.heads;
+      apart = apart_after table.records s row within (apart_from table.records table.apart s) table.apart;
+    }
