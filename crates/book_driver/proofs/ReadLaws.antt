@@ -71,7 +71,7 @@ opens : (h : History cpp) (c : Call cpp) (n : ℕ) (book : State Frame) → Stan
 opens h c n book s e =
     let wide = eq-eqb (length book.frames) 8192 s.frames.wide in
     let long = eq-eqb (length book.column) 8192 s.wide in
-    (law.lawful (c ∷ h) book s).readable.only-lengths (just_now e) (length book.frames) (length book.column) (and_from (eqb (length book.frames) 8192) (eqb (length book.column) 8192) wide long)
+    (law.lawful (c ∷ h) book s).readable.only_lengths (just_now e) (length book.frames) (length book.column) (and_from (eqb (length book.frames) 8192) (eqb (length book.column) 8192) wide long)
 
 -- so it is after a run that says valid
 pub valid_opens : (input : List ℕ) (fl cl a b n : ℕ) (o : Outcome) (book : State Frame) → o ≡ Valid n → Says input fl cl a b o → Leaves input a b o book → working_reading book (length book.frames) (length book.column) ≡ None

@@ -11,8 +11,8 @@ use levels::chains::Chains;
 use levels::entry::Entry;
 use levels::pile::Pile;
 use levels::store::{Declaring, Looking};
-use std::alloc::Global;
-use std::{fmt, io};
+use std::alloc::{AllocError, Global};
+use std::io;
 use syntax::Frame;
 
 // So many places has an area.
@@ -36,14 +36,19 @@ const NO_VARIABLE: Entry<u8> = Entry {
 };
 
 // Writes the line of an expression.
-fn write_type(text: &mut String, sheet: u8, place: usize, number: u8) -> fmt::Result
+fn write_type(text: &mut String, sheet: u8, place: usize, number: u8) -> Result<(), AllocError>
     ensures { OnOk result (string_bytes text.new ≡ string_bytes text.old ++ type_line sheet place (Some number)) }
 {
     writeln!(text, "{sheet} {place} {number}")
 }
 
 // Writes the line of a place of a sheet, if an expression ends there.
-fn write_place(text: &mut String, reader: &Reader<'_>, sheet: u8, place: usize) -> fmt::Result
+fn write_place(
+    text: &mut String,
+    reader: &Reader<'_>,
+    sheet: u8,
+    place: usize,
+) -> Result<(), AllocError>
     requires { sheet < 32 }
     ensures { OnOk result (string_bytes text.new ≡ string_bytes text.old ++ type_line sheet place (type_of (valid_state reader.now.table.now reader.now.frames.now reader.now.column.now) sheet place)) }
 {
@@ -54,7 +59,7 @@ fn write_place(text: &mut String, reader: &Reader<'_>, sheet: u8, place: usize) 
 }
 
 // Writes the lines of a sheet, in rising order.
-fn write_sheet(text: &mut String, reader: &Reader<'_>, sheet: u8) -> fmt::Result
+fn write_sheet(text: &mut String, reader: &Reader<'_>, sheet: u8) -> Result<(), AllocError>
     requires { sheet < 32 }
     ensures { OnOk result (string_bytes text.new ≡ string_bytes text.old ++ sheet_lines (type_of (valid_state reader.now.table.now reader.now.frames.now reader.now.column.now)) sheet 256) }
 {
@@ -70,7 +75,7 @@ fn write_types<'a>(
     book: &'a Book,
     frames: &'a [Frame],
     column: &'a [u8],
-) -> fmt::Result
+) -> Result<(), AllocError>
     requires { working_reading (state book.now frames.now column.now) (length frames.now) (length column.now) ≡ None }
     ensures { OnOk result (string_bytes text.new ≡ string_bytes text.old ++ type_lines (type_of (state book.now frames.now column.now)) 32) }
 {
@@ -90,7 +95,7 @@ fn write_report<H: Declaring<u64>, S: Declaring<u8>>(
     column: &mut [u8],
     heads: &mut H,
     variables: &mut S,
-) -> fmt::Result
+) -> Result<(), AllocError>
     ensures { OnOk result ((bs : List ℕ) × (string_bytes text.new ≡ string_bytes text.old ++ bs) × Reported input.now (length frames.old) (length column.old) (H.Looking.meaning heads.old).capacity (S.Looking.meaning variables.old).capacity bs) }
 {
     let outcome = run(input, book, frames, column, heads, variables);

@@ -8,17 +8,17 @@ use Rattle.book_driver.proofs.reporting.write_place.Goals as goal
 pub unwrap-requires : goal.unwrap-requires
 unwrap-requires c =
     let q = c.args.reader.now in
-    answered (valid_state q.table.now q.frames.now q.column.now) c.args.sheet c.args.place c.type-at.result c.requires c.type-at.ensures.result
+    answered (valid_state q.table.now q.frames.now q.column.now) c.args.sheet c.args.place c.type_at.result c.requires c.type_at.ensures.result
 
 pub returns-in-Some : goal.returns-in-Some
 returns-in-Some c =
     let q = c.args.reader.now in
-    let e = type_read (valid_state q.table.now q.frames.now q.column.now) c.args.sheet c.args.place c.type-at.result c.unwrap.result c.requires c.type-at.ensures.result c.unwrap.ensures in
-    subst (λ o. IfOk c.write-type.result (λ _. string_bytes c.write-type.new.text ≡ string_bytes c.args.text.now ++ type_line c.args.sheet c.args.place o)) (sym c.in-Some.is ∙ e) c.write-type.ensures
+    let e = type_read (valid_state q.table.now q.frames.now q.column.now) c.args.sheet c.args.place c.type_at.result c.unwrap.result c.requires c.type_at.ensures.result c.unwrap.ensures in
+    subst (λ o. IfOk c.write_type.result (λ _. string_bytes c.write_type.new.text ≡ string_bytes c.args.text.now ++ type_line c.args.sheet c.args.place o)) (sym c.in-Some.is ∙ e) c.write_type.ensures
 
 pub returns-in-None : goal.returns-in-None
 returns-in-None c =
     let q = c.args.reader.now in
-    let e = type_read (valid_state q.table.now q.frames.now q.column.now) c.args.sheet c.args.place c.type-at.result c.unwrap.result c.requires c.type-at.ensures.result c.unwrap.ensures in
+    let e = type_read (valid_state q.table.now q.frames.now q.column.now) c.args.sheet c.args.place c.type_at.result c.unwrap.result c.requires c.type_at.ensures.result c.unwrap.ensures in
     sym (append-nil (string_bytes c.args.text.now))
     ∙ ap (λ o. string_bytes c.args.text.now ++ type_line c.args.sheet c.args.place o) (sym c.in-None.is ∙ e)

@@ -13,4 +13,4 @@ loop-place-init c =
 pub loop-place-preserved : goal.loop-place-preserved
 loop-place-preserved c =
     let q = c.args.reader.now in
-    sheet_more (type_of (valid_state q.table.now q.frames.now q.column.now)) (string_bytes c.args.text.now) (string_bytes c.loop-place.text) c.args.sheet c.loop-place.place (string_bytes c.write-place.new.text) c.loop-place.invariant c.in-ok-write-place.ensures
+    sheet_more (type_of (valid_state q.table.now q.frames.now q.column.now)) (string_bytes c.args.text.now) (string_bytes c.loop-place.text) c.args.sheet c.loop-place.place (string_bytes c.write_place.new.text) c.loop-place.invariant c.in_ok-write_place.ensures

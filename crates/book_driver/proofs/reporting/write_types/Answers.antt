@@ -12,8 +12,8 @@ loop-sheet-init c = types_none (type_of (state c.args.book.now c.args.frames.now
 pub loop-sheet-preserved : goal.loop-sheet-preserved
 loop-sheet-preserved c =
     let e = lent_types c.args.book.now c.args.frames.now c.args.column.now c.reader.result c.unwrap-reader.result c.unwrap-reader.ensures c.reader.ensures.lends in
-    types_more (type_of (state c.args.book.now c.args.frames.now c.args.column.now)) (string_bytes c.args.text.now) (string_bytes c.loop-sheet.text) c.loop-sheet.sheet (string_bytes c.write-sheet.new.text) c.loop-sheet.invariant
-    (c.in-ok-write-sheet.ensures ∙ ap (λ types. string_bytes c.loop-sheet.text ++ sheet_lines types c.loop-sheet.sheet 256) e)
+    types_more (type_of (state c.args.book.now c.args.frames.now c.args.column.now)) (string_bytes c.args.text.now) (string_bytes c.loop-sheet.text) c.loop-sheet.sheet (string_bytes c.write_sheet.new.text) c.loop-sheet.invariant
+    (c.in_ok-write_sheet.ensures ∙ ap (λ types. string_bytes c.loop-sheet.text ++ sheet_lines types c.loop-sheet.sheet 256) e)
 
 pub returns : goal.returns
 returns c =

@@ -1,10 +1,8 @@
 -- A refusal alters nothing; an accepted check settles every sheet.
-use Rattle.std.proofs.Common.{◌≡◌, ◌<◌, ◌≤◌, false, ◌⊎◌, length, refl, ◌∙◌, inl, inr, arith}
+use Rattle.std.proofs.Common.{◌<◌, ◌≤◌, false, ◌⊎◌, length, refl, ◌∙◌, inl, inr, arith}
 use Rattle.history.specs.Words.{map_some}
 use Rattle.history.specs.Calls.{refusal, Call.check, Answer.refused, Answer.checked}
 use Rattle.history.specs.Working.{working_signatures}
-use Rattle.history.specs.Runs.{Does}
-use Rattle.cpp.specs.Cpp.{cpp}
 use Rattle.cpp.proofs.Laws.{law, promises}
 use Rattle.records.specs.Faults.{told}
 use Rattle.records.proofs.Holding.{held_left}

@@ -1,4 +1,3 @@
-use Rattle.std.proofs.Common.{Some, None}
 use Rattle.cpp.proofs.Laws.{law}
 use Rattle.records.proofs.Freshening.{unfreshened, freshened}
 use Rattle.book.specs.States.{state}

@@ -1,4 +1,4 @@
-use Rattle.std.proofs.Common.{◌≡◌, length, Ok, Err}
+use Rattle.std.proofs.Common.{length, Ok, Err}
 use Rattle.cpp.proofs.Laws.{promises}
 use Rattle.records.specs.Answers.{edited}
 use Rattle.records.proofs.Posting.{room_left, unread_does, unformed_does, formed_does}

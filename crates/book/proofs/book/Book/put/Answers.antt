@@ -6,7 +6,7 @@ use Rattle.history.specs.Calls.{elsewhere}
 use Rattle.history.specs.Working.{working_signatures}
 use Rattle.cpp.specs.Heads.{name_of, head_number, repeated_in}
 use Rattle.cpp.specs.Cpp.{cpp}
-use Rattle.records.specs.Records.{signed, signatures_of, state_of, is_head}
+use Rattle.records.specs.Records.{signed, state_of, is_head}
 use Rattle.records.specs.Sheets.{sheet_from}
 use Rattle.records.proofs.Refusing.{put_31, put_32, put_33, put_34, put_done, refused_does, wrote_does}
 use Rattle.records.proofs.Telling.{packed_number, number_is_head, repeated_told}

@@ -1,5 +1,5 @@
 -- The tests are the refusal's, and what follows of every history the law promises.
-use Rattle.std.proofs.Common.{◌≡◌, cond, length, Some, None, sym, refl, ap, ◌∙◌}
+use Rattle.std.proofs.Common.{cond, length, Some, None, sym, refl, ap, ◌∙◌}
 use Rattle.history.specs.Calls.{refusal}
 use Rattle.records.proofs.Questions.{reader_other_length, reader_by_mark, reader_promised}
 use Rattle.book.specs.States.{state}

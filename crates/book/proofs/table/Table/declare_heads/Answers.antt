@@ -1,5 +1,5 @@
 -- Each filled sheet's head is declared on the one level, and none of the calls is refused.
-use Rattle.std.proofs.Common.{◌≡◌, ◌+◌, ◌<◌, [], ◌∷◌, sym, ap, ◌∙◌, arith}
+use Rattle.std.proofs.Common.{◌≡◌, ◌<◌, [], ◌∷◌, ap, ◌∙◌, arith}
 use Rattle.levels.specs.Store.{with_levels}
 use Rattle.records.specs.Records.{signatures_of}
 use Rattle.records.specs.Stores.{heads_below}

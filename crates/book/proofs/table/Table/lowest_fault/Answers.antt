@@ -1,8 +1,7 @@
 -- The first fault found is the lowest, and without one there is none.
-use Rattle.std.proofs.Common.{◌≡◌, ◌<◌, Some, None, sym, ap, ◌∙◌, arith}
+use Rattle.std.proofs.Common.{◌≡◌, sym, ap, ◌∙◌, arith}
 use Rattle.walk.specs.declared.verdict.Verdict.TheVariants.{Valid, Broken, Altered}
 use Rattle.history.specs.Words.{lowest}
-use Rattle.records.specs.Faults.{told}
 use Rattle.records.proofs.Lowest.{lowest_start, lowest_more, lowest_found, kept_at, empty_fault, filled_fault}
 use Rattle.book.proofs.table.Table.lowest_fault.Goals as goal
 use Rattle.book.proofs.table.Table.lowest_fault.Goals.{then-record+in-Valid, else-record}

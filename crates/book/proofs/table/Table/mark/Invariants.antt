@@ -1,4 +1,3 @@
-use Rattle.std.proofs.Common.{get_or}
 use Rattle.history.specs.Areas.{part}
 use Rattle.records.specs.Records.{empty, signed, marked_record}
 use Rattle.records.proofs.Updates.{UpdatedTo}

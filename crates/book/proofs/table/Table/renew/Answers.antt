@@ -1,5 +1,5 @@
 -- Another verdict and mark leave names and heads as they were.
-use Rattle.std.proofs.Common.{◌≡◌, ◌<◌, length, get_or, ◌∙◌, arith, length-set}
+use Rattle.std.proofs.Common.{◌<◌, length, get_or, ◌∙◌, arith, length-set}
 use Rattle.records.specs.Records.{empty, renewed}
 use Rattle.records.proofs.Rows.{headed_after, apart_from, apart_after}
 use Rattle.book.proofs.table.Table.renew.Goals as goal

@@ -1,7 +1,6 @@
 -- The row looked at is the sheet's.
-use Rattle.std.proofs.Common.{◌≡◌, true, false, get_or, Some, sym, ap, ◌∙◌}
+use Rattle.std.proofs.Common.{Some, sym, ap, ◌∙◌}
 use Rattle.std.proofs.lemmas.Bool.{not-true, not-false}
-use Rattle.records.specs.Records.{empty}
 use Rattle.records.proofs.Rows.{filled_signature, empty_signature}
 use Rattle.book.proofs.table.Table.signature.Goals as goal
 

@@ -1,5 +1,5 @@
 -- Each turn settles one sheet more: a due one by its walk, any other as it is.
-use Rattle.std.proofs.Common.{◌≡◌, ◌+◌, ◌<◌, ◌≤◌, length, refl, ap, ◌∙◌, arith}
+use Rattle.std.proofs.Common.{◌≡◌, ◌+◌, ◌<◌, length, refl, ap, ◌∙◌, arith}
 use Rattle.history.specs.Language.{heads_of}
 use Rattle.records.specs.Records.{signatures_of}
 use Rattle.records.proofs.Settling.{settled_start, settled_idle, settled_walked, settled_same, settled_capacity, settled_few, empty_idle, unmarked_idle}

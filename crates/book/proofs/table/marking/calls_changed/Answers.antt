@@ -1,4 +1,4 @@
-use Rattle.std.proofs.Common.{◌≡◌, true, false, sym, ap, ◌∙◌, ap₂}
+use Rattle.std.proofs.Common.{sym, ◌∙◌, ap₂}
 use Rattle.history.specs.Language.{differ}
 use Rattle.records.specs.Records.{signed}
 use Rattle.records.proofs.Marking.{call_decides, call_passed, other_passed, none_met}
