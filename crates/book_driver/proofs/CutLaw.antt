@@ -1,8 +1,8 @@
 -- The pieces of an input are the input, none is empty, each but the last ends with its first line that begins 03, and the last has none before its last line.
-use Rattle.std.proofs.Common.{◌≡◌, ℕ, ◌+◌, Bool, true, false, cond, eqb, List, [], ◌∷◌, ◌++◌, length, sym, refl, ap, ◌∙◌, subst, arith}
+use Rattle.std.proofs.Common.{◌≡◌, ℕ, Bool, true, false, cond, eqb, List, [], ◌∷◌, ◌++◌, length, sym, refl, ap, ◌∙◌, arith}
 use Rattle.std.specs.List.{AllByRecursion as All}
 use Rattle.std.proofs.lemmas.List.{append_assoc}
-use Rattle.book_driver.specs.Pieces.{lines, onto, ends_sheet, before, cut_after, pieces, together, EndsWithFirst, NoneBeforeLast, Ending, Cuts, Cutting}
+use Rattle.book_driver.specs.Pieces.{lines, onto, ends_sheet, before, cut_after, pieces, together, EndsWithFirst, NoneBeforeLast, Ending, Cutting}
 
 -- one line and no more; one whose bytes end there, whatever follows
 abbrev Line : List ℕ → Type 0

@@ -1,10 +1,10 @@
 -- The run, piece by piece: what each call on the book hands on to the next.
-use Rattle.std.proofs.Common.{◌≡◌, ℕ, ◌+◌, ◌<◌, true, cond, eqb, List, [], ◌∷◌, length, Some, None, Option, sym, refl, ap, ◌∙◌, subst, ap₂, arith}
+use Rattle.std.proofs.Common.{◌≡◌, ℕ, ◌+◌, ◌<◌, true, cond, eqb, List, [], ◌∷◌, Some, None, Option, sym, refl, ap, ◌∙◌, subst, ap₂, arith}
 use Rattle.std.proofs.lemmas.Bool.{eq-eqb, and_from}
 use Rattle.syntax.specs.declared.frame.Frame.{Frame}
 use Rattle.history.specs.Words.{or_else}
 use Rattle.history.specs.Language.{Fault}
-use Rattle.history.specs.Calls.{sized, fresh_refusal, Call, Call.post, Call.check, History, Answer, Answer.refused, Answer.done, Answer.checked}
+use Rattle.history.specs.Calls.{sized, fresh_refusal, Call, Call.post, Call.check, History, Answer, Answer.refused, Answer.done}
 use Rattle.history.specs.Plain.{plain, answer}
 use Rattle.history.specs.Working.{State}
 use Rattle.history.specs.Stands.{Stands}

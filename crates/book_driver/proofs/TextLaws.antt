@@ -1,5 +1,5 @@
 -- The printed text, line by line.
-use Rattle.std.proofs.Common.{◌≡◌, ℕ, suc, ◌+◌, List, [], ◌++◌, Option, sym, refl, ap, ◌∙◌, append_assoc, append-nil, add-one}
+use Rattle.std.proofs.Common.{◌≡◌, ℕ, ◌+◌, List, ◌++◌, Option, sym, ap, ◌∙◌, append_assoc, append-nil, add-one}
 use Rattle.book_driver.specs.Texts.{type_line, sheet_lines, type_lines}
 
 -- no place is written yet

@@ -7,6 +7,8 @@ use levels::chains::Chains;
 use levels::entry::Entry;
 use levels::pile::Pile;
 use levels::store::Looking;
+use std::alloc::Global;
+use std::process::Abort;
 use std::test::*;
 
 const DONE: [usize; 4] = [0, 0, 0, 0];
@@ -25,18 +27,18 @@ fn unused<V>(value: V) -> Entry<V> {
 }
 
 // A callee on sheet 0 and its caller on sheet 1, checked.
-fn checked_pair(rt: HostRuntime) -> Result<TestBook, Fail> {
-    let mut book = TestBook::new(rt.alloc())?;
-    assert_eq!(book.put(0, &takes(DOUBLE, 8)), DONE);
-    assert_eq!(book.put(1, &calls(2)), DONE);
-    assert_eq!(book.check(), [2, 0, 0, 0, 0]);
+fn checked_pair(rt: &impl Abort, heap: Global) -> Result<TestBook, Fail> {
+    let mut book = TestBook::new(heap)?;
+    assert_eq!(rt; book.put(0, &takes(DOUBLE, 8)), DONE);
+    assert_eq!(rt; book.put(1, &calls(2)), DONE);
+    assert_eq!(rt; book.check(), [2, 0, 0, 0, 0]);
     Ok(book)
 }
 
 // A parameter that becomes int is seen by the caller, and so is a callee that goes.
 #[test]
 fn a_callee_changes(rt: HostRuntime) -> Result<(), Fail> {
-    let mut book = checked_pair(rt)?;
+    let mut book = checked_pair(&rt, rt.alloc())?;
     assert_eq!(rt; book.put(0, &takes(INT, 8)), DONE);
     assert_eq!(rt; book.check(), [2, 54, 4, 1, 2]);
     assert_eq!(rt; book.clear(0), DONE);
@@ -48,7 +50,7 @@ fn a_callee_changes(rt: HostRuntime) -> Result<(), Fail> {
 // Another parameter name, the same head: the caller is not due.
 #[test]
 fn the_same_head(rt: HostRuntime) -> Result<(), Fail> {
-    let mut book = checked_pair(rt)?;
+    let mut book = checked_pair(&rt, rt.alloc())?;
     assert_eq!(rt; book.put(0, &takes(DOUBLE, 6)), DONE);
     assert_eq!(rt; book.check(), [1, 0, 0, 0, 0]);
     assert_eq!(rt; book.check(), [0, 0, 0, 0, 0]);
@@ -58,7 +60,7 @@ fn the_same_head(rt: HostRuntime) -> Result<(), Fail> {
 // A head that goes and comes back, on its sheet or another, still counts.
 #[test]
 fn a_head_restored(rt: HostRuntime) -> Result<(), Fail> {
-    let mut book = checked_pair(rt)?;
+    let mut book = checked_pair(&rt, rt.alloc())?;
     assert_eq!(rt; book.put(0, &takes(INT, 8)), DONE);
     assert_eq!(rt; book.put(0, &takes(DOUBLE, 8)), DONE);
     assert_eq!(rt; book.check(), [2, 0, 0, 0, 0]);
@@ -71,7 +73,7 @@ fn a_head_restored(rt: HostRuntime) -> Result<(), Fail> {
 // A put of another name alters two heads.
 #[test]
 fn replaced_by_another(rt: HostRuntime) -> Result<(), Fail> {
-    let mut book = checked_pair(rt)?;
+    let mut book = checked_pair(&rt, rt.alloc())?;
     assert_eq!(rt; book.put(0, &nothing(6)), DONE);
     assert_eq!(rt; book.check(), [2, 52, 4, 1, 2]);
     assert_eq!(rt; book.put(0, &takes(DOUBLE, 8)), DONE);
@@ -93,7 +95,7 @@ fn the_caller_first(rt: HostRuntime) -> Result<(), Fail> {
 // A refused put leaves the reader and makes nothing due.
 #[test]
 fn refused_puts(rt: HostRuntime) -> Result<(), Fail> {
-    let mut book = checked_pair(rt)?;
+    let mut book = checked_pair(&rt, rt.alloc())?;
     assert_eq!(rt; book.put(4, &takes(INT, 8)), [33, 3, 4, 0]);
     assert_eq!(rt; book.put(40, &takes(INT, 8)), [31, 3, 40, 0]);
     assert_eq!(rt; book.put(4, &two(6, 6)), [34, 3, 4, 2]);
@@ -131,7 +133,7 @@ fn empty_is_never_due(rt: HostRuntime) -> Result<(), Fail> {
 // The types, and where there are none.
 #[test]
 fn types_are_read(rt: HostRuntime) -> Result<(), Fail> {
-    let mut book = checked_pair(rt)?;
+    let mut book = checked_pair(&rt, rt.alloc())?;
     assert_eq!(rt; book.type_at(1, 1), 3);
     assert_eq!(rt; book.type_at(1, 2), 5);
     assert_eq!(rt; book.type_at(1, 3), 0);
@@ -146,7 +148,7 @@ fn types_are_read(rt: HostRuntime) -> Result<(), Fail> {
 // A column or frames altered from outside: no type where none can be.
 #[test]
 fn an_altered_column(rt: HostRuntime) -> Result<(), Fail> {
-    let mut book = checked_pair(rt)?;
+    let mut book = checked_pair(&rt, rt.alloc())?;
     book.mark(1, 0, 2);
     book.mark(1, 1, 6);
     book.mark(1, 9, 2);
@@ -159,7 +161,7 @@ fn an_altered_column(rt: HostRuntime) -> Result<(), Fail> {
 // Frames of a sheet that is not due decide nothing.
 #[test]
 fn altered_but_not_due(rt: HostRuntime) -> Result<(), Fail> {
-    let mut book = checked_pair(rt)?;
+    let mut book = checked_pair(&rt, rt.alloc())?;
     book.alter(1, 4, frame(0x14, 0, 0, 0));
     assert_eq!(rt; book.check(), [0, 0, 0, 0, 0]);
     assert_eq!(rt; book.number(1, 1), 3);
@@ -220,7 +222,7 @@ fn small_stores(rt: HostRuntime) -> Result<(), Fail> {
 // The same of a small store of variables; a valid book stays valid.
 #[test]
 fn small_variables(rt: HostRuntime) -> Result<(), Fail> {
-    let mut book = checked_pair(rt)?;
+    let mut book = checked_pair(&rt, rt.alloc())?;
     let mut entries = [unused(0u64); 256];
     let mut room = [unused(0u8); 255];
     let mut heads = Chains::new(&mut entries);
@@ -291,7 +293,7 @@ fn posts(rt: HostRuntime) -> Result<(), Fail> {
 // A third kind of store serves as well; a check with nothing due, or with nothing but an altered sheet, leaves the variables alone.
 #[test]
 fn a_third_store(rt: HostRuntime) -> Result<(), Fail> {
-    let mut book = checked_pair(rt)?;
+    let mut book = checked_pair(&rt, rt.alloc())?;
     let mut entries = [unused(0u64); 256];
     let mut room = [unused(0u8); 256];
     let mut heads = Pile::new(&mut entries);

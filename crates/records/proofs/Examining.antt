@@ -1,5 +1,5 @@
 -- The examination of a sheet answers and leaves what the law says of its walk.
-use Rattle.std.proofs.Common.{◌≡◌, ℕ, suc, ◌+◌, ◌-◌, ◌*◌, ◌<◌, ◌≤◌, Bool, true, false, cond, eqb, leb, List, length, take, drop, replicate, is_ok, Some, None, Ok, Err, Result, sym, refl, ap, ◌∙◌, ap₂, inl, inr}
+use Rattle.std.proofs.Common.{◌≡◌, ℕ, suc, ◌+◌, ◌-◌, ◌*◌, ◌<◌, ◌≤◌, Bool, true, false, cond, eqb, leb, List, length, take, drop, replicate, Some, None, Ok, Err, Result, sym, refl, ap, ◌∙◌, ap₂, inl, inr}
 use borrow.Rule.Slice.PartMut.{put_mid}
 use Rattle.std.proofs.lemmas.Bool.{eq-eqb, le-leb, cond-true, cond-false, cases_Bool}
 use Rattle.syntax.specs.declared.frame.Frame.{Frame}

@@ -1,10 +1,8 @@
 -- What fresh answers and leaves.
-use Rattle.std.proofs.Common.{◌≡◌, ℕ, Bool, false, cond, List, map, length, replicate, Some, None, Option, sym, refl, ap, ◌∙◌}
+use Rattle.std.proofs.Common.{◌≡◌, ℕ, false, cond, List, length, replicate, Some, None, sym, refl, ap, ◌∙◌}
 use Rattle.syntax.specs.declared.frame.Frame.{Frame}
 use Rattle.syntax.specs.Writing.{blank}
-use Rattle.history.specs.Language.{Fault}
 use Rattle.history.specs.Calls.{refusal, fresh_refusal}
-use Rattle.history.specs.Areas.{table}
 use Rattle.history.specs.Working.{State, new_book, fresh_state}
 use Rattle.history.specs.Runs.{Freshens}
 use Rattle.cpp.specs.Cpp.{cpp}

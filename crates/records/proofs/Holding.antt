@@ -1,16 +1,16 @@
 -- The level with every record's head holds the heads of the book, and no other.
-use Rattle.std.proofs.Common.{◌≡◌, ℕ, zero, suc, ◌<◌, ◌≤◌, Bool, true, false, cond, ◌&&◌, eqb, leb, ◌⊎◌, List, [], ◌∷◌, length, get_or, Some, None, Option, sym, refl, ap, ◌∙◌, subst, ap₂, inl, inr, arith}
+use Rattle.std.proofs.Common.{◌≡◌, ℕ, zero, suc, Bool, true, false, cond, ◌&&◌, eqb, leb, List, [], ◌∷◌, length, get_or, Some, None, Option, sym, refl, ap, ◌∙◌, subst, arith}
 use Rattle.std.proofs.lemmas.List.{length-map}
 use Rattle.std.proofs.lemmas.Bool.{and_parts, and_from, eqb-true, eq-eqb, leb-true, cond-true, cond-false}
 use Rattle.syntax.specs.Types.{type_of}
 use Rattle.levels.specs.Store as store
 use Rattle.levels.specs.Store.{find, looked}
-use Rattle.heads.specs.Heads.{parameters_of, return_of}
+use Rattle.heads.specs.Heads.{parameters_of}
 use Rattle.rules.proofs.Rows.{none_some}
 use Rattle.walk.specs.Judge.{Numbers}
 use Rattle.walk.specs.Tied.{Carries}
 use Rattle.history.specs.Words.{or_else, lowest, map_some}
-use Rattle.history.specs.Language.{Signatures, head_for, heads_of}
+use Rattle.history.specs.Language.{head_for, heads_of}
 use Rattle.history.proofs.Words.{or_else_none, lowest_none, lowest_some}
 use Rattle.cpp.specs.Heads.{head_code, head_from}
 use Rattle.records.specs.declared.record.Record.{Record}

@@ -1,10 +1,10 @@
 -- The search for a name on another sheet.
-use Rattle.std.proofs.Common.{◌≡◌, ℕ, suc, ◌-◌, ◌<◌, ◌≤◌, Bool, true, false, cond, eqb, List, map, length, get_or, take, Some, None, Option, sym, refl, ap, ◌∙◌, inl, inr, arith}
+use Rattle.std.proofs.Common.{◌≡◌, ℕ, ◌-◌, ◌<◌, ◌≤◌, true, false, cond, List, map, length, get_or, take, Some, None, sym, refl, ap, ◌∙◌, inl, inr, arith}
 use lib.ListN.{get_or-map}
 use Rattle.std.proofs.lemmas.Bool.{eq-eqb, ne_eqb, cases_eq, cases_lt, cases_Bool, false≢true}
 use Rattle.std.proofs.lemmas.List.{length-map, length-take-le, get_or-take, get_or_past}
-use Rattle.levels.specs.Search.{Clear, Newest}
-use Rattle.history.specs.Words.{updated, lowest, filled}
+use Rattle.levels.specs.Search.{Newest}
+use Rattle.history.specs.Words.{updated, filled}
 use Rattle.history.specs.Language.{Signatures, head_for}
 use Rattle.history.specs.Calls.{elsewhere}
 use Rattle.history.proofs.Words.{updated_other, updated_all, lowest_none, lowest_none_at, filled_none}

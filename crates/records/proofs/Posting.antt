@@ -1,8 +1,8 @@
 -- A post is a reading, a forming and a put.
-use Rattle.std.proofs.Common.{◌≡◌, ℕ, ◌-◌, List, length, take, Ok, Err, Result, sym, refl, ap, ◌∙◌, subst, ap₂, arith}
+use Rattle.std.proofs.Common.{◌≡◌, ℕ, ◌-◌, List, length, take, Ok, Err, Result, sym, refl, ap, ◌∙◌, arith}
 use Rattle.syntax.specs.declared.frame.Frame.{Frame}
 use Rattle.syntax.specs.declared.fault.Fault.{Fault as Lower}
-use Rattle.syntax.specs.Form.{accepted, forms}
+use Rattle.syntax.specs.Form.{forms}
 use Rattle.codec.specs.Codec.{Reads}
 use Rattle.frames.specs.declared.formed.Formed.{Formed}
 use Rattle.frames.specs.Sheets.{frames_of}

@@ -1,6 +1,6 @@
 -- One sheet's record and its parts of the areas replaced, and its callers marked: what put and clear leave.
-use Rattle.std.proofs.Common.{◌≡◌, ℕ, suc, ◌-◌, ◌<◌, ◌≤◌, Bool, true, false, cond, ◌&&◌, eqb, List, map, length, get_or, set, replicate, Some, None, Option, sym, refl, ap, ◌∙◌, ap₂, inl, inr, arith}
-use Rattle.std.proofs.lemmas.Bool.{cond-true, cond-false, eq-eqb, ne_eqb, eqb-true, cases_eq, cases_lt, cases_Bool, and_parts, both_ways, false≢true}
+use Rattle.std.proofs.Common.{◌≡◌, ℕ, suc, ◌<◌, Bool, true, false, cond, ◌&&◌, eqb, List, map, length, get_or, set, replicate, Some, None, Option, sym, refl, ap, ◌∙◌, ap₂, inl, inr, arith}
+use Rattle.std.proofs.lemmas.Bool.{cond-true, cond-false, eq-eqb, ne_eqb, cases_eq, cases_lt, cases_Bool, and_parts, false≢true}
 use Rattle.std.proofs.lemmas.List.{length-map, length-set, get_or-set_same, get_or-set_other, get_or_past}
 use Rattle.std.proofs.lemmas.List.FromFn.{fill_by_all}
 use Rattle.syntax.specs.declared.frame.Frame.{Frame}
@@ -8,7 +8,7 @@ use Rattle.syntax.specs.Writing.{blank}
 use Rattle.frames.specs.declared.formed.Formed.{Formed}
 use Rattle.frames.specs.Sheets.{frames_of, sheet_of}
 use Rattle.walk.specs.declared.verdict.Verdict.TheVariants.{Valid}
-use Rattle.history.specs.Words.{updated, lowest, filled}
+use Rattle.history.specs.Words.{updated, filled}
 use Rattle.history.specs.Language.{head_for, zeros, image, blanks, signature}
 use Rattle.history.specs.Calls.{Act.wrote, Act.emptied, elsewhere}
 use Rattle.history.specs.Areas.{part, with_part, table}

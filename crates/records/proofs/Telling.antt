@@ -1,8 +1,7 @@
 -- What a formed sheet tells in the code is what the law has of its definition.
-use Rattle.std.proofs.Common.{◌≡◌, ℕ, suc, ◌≤◌, true, cond, ◌||◌, eqb, leb, List, [], ◌∷◌, map, length, Some, None, sym, refl, ap, ◌∙◌, ap₂, arith}
+use Rattle.std.proofs.Common.{◌≡◌, ℕ, suc, ◌≤◌, true, cond, ◌||◌, eqb, leb, List, [], ◌∷◌, length, Some, refl, ap, ◌∙◌, ap₂, arith}
 use Rattle.std.proofs.lemmas.List.{length-map}
 use Rattle.std.proofs.lemmas.Bool.{and_from, eq-eqb, le-leb}
-use Rattle.syntax.specs.declared.frame.Frame.{Frame}
 use Rattle.syntax.specs.declared.frame.«Type».{«Type» as Ty}
 use Rattle.syntax.specs.Types.{type_of}
 use Rattle.frames.specs.declared.formed.Formed.{Formed}
@@ -10,8 +9,6 @@ use Rattle.frames.specs.Sheets.{frames_of}
 use Rattle.heads.specs.Heads.{parameters_of}
 use Rattle.rules.specs.Judge.{among}
 use Rattle.rules.specs.Heads.{Head, head}
-use Rattle.rules.specs.Programs.{param_types}
-use Rattle.rules.specs.Books.{sheet_params, sheet_head}
 use Rattle.walk.specs.Params as code
 use Rattle.walk.specs.Params.{param_frames, repeated_param}
 use Rattle.walk.specs.Examined.{sheet_packed}

@@ -1,5 +1,5 @@
 -- What the calls answer, in the law's words.
-use Rattle.std.specs.Prelude.{◌≡◌, ℕ, Some, None, Ok, Err, Option, Result}
+use Rattle.std.specs.Prelude.{Some, None, Ok, Err, Option, Result}
 use Rattle.history.specs.Words.{map_some}
 use Rattle.history.specs.Language.{Fault as Numbered}
 use Rattle.history.specs.Calls.{Answer, Answer.refused, Answer.done, Answer.checked}

@@ -1,5 +1,5 @@
 -- A formed sheet as a definition of the law.
-use Rattle.std.specs.Prelude.{◌≡◌, Bool, T}
+use Rattle.std.specs.Prelude.{T}
 use Rattle.std.proofs.Common.{sym, subst}
 use Rattle.frames.specs.declared.formed.Formed.{Formed}
 use Rattle.frames.specs.Sheets.{frames_of}

@@ -1,7 +1,7 @@
 -- A question on one of the 32 sheets is answered, with the type at that place.
 use Rattle.std.proofs.Common.{◌≡◌, ◌++◌, IfOk, string_bytes, sym, ap, ◌∙◌, subst, append-nil}
 use Rattle.book.specs.States.{valid_state}
-use Rattle.book_driver.specs.Texts.{type_of, type_line}
+use Rattle.book_driver.specs.Texts.{type_line}
 use Rattle.book_driver.proofs.ReadLaws.{answered, type_read}
 use Rattle.book_driver.proofs.reporting.write_place.Goals as goal
 

@@ -1,5 +1,5 @@
 -- The lines of the sheets below the next one are written.
-use Rattle.std.proofs.Common.{◌≡◌, ◌++◌, string_bytes, ap, ◌∙◌, subst, arith}
+use Rattle.std.proofs.Common.{◌≡◌, ◌++◌, string_bytes, ap, ◌∙◌, arith}
 use Rattle.book.specs.States.{state}
 use Rattle.book_driver.specs.Texts.{type_of, sheet_lines, type_lines}
 use Rattle.book_driver.proofs.ReadLaws.{lent_types}

@@ -1,5 +1,5 @@
 -- Each call's promise hands the history on to the next.
-use Rattle.std.proofs.Common.{◌≡◌, length, Some, None, refl, arith}
+use Rattle.std.proofs.Common.{length, Some, None, arith}
 use Rattle.std.proofs.lemmas.Result.{err_from_is_err_and}
 use Rattle.history.specs.Calls.{Answer.refused, Answer.done}
 use Rattle.records.specs.Faults.{told}
