@@ -56,12 +56,11 @@ fn fills<S: Declaring<u8>>(rt: &impl Abort, s: &mut S, room: u16) -> Result<(), 
     Ok(())
 }
 
-// A name on two levels, names equal modulo 64, and what is seen again after leaving; the entries of both levels count.
+// A name on two levels, names equal modulo 64, and what is seen again after leaving.
 fn shadows<S: Declaring<u8>>(rt: &impl Abort, s: &mut S) -> Result<(), Fail> {
     assert_eq!(rt; declare_two(s, 7, 1, 71, 2)?, Some(1));
     s.enter()?;
     s.declare(7, 3)?;
-    assert_eq!(rt; number_of(s.declare(135, 4)), 45);
     assert_eq!(rt; s.look(7), Some(3));
     assert_eq!(rt; s.look(71), Some(2));
     assert!(rt; !s.here(71));
@@ -70,14 +69,17 @@ fn shadows<S: Declaring<u8>>(rt: &impl Abort, s: &mut S) -> Result<(), Fail> {
     assert_eq!(rt; s.look(135), None);
     assert_eq!(rt; number_of(s.declare(71, 4)), 44);
     assert_eq!(rt; s.look(71), Some(2));
-    s.declare(135, 4)?;
-    assert_eq!(rt; s.look(135), Some(4));
     Ok(())
 }
 
-// The same once more, after a wipe of what is left.
-fn shadows_again<S: Declaring<u8>>(rt: &impl Abort, s: &mut S) -> Result<(), Fail> {
+// Entries of both levels count, and a wipe leaves none of them.
+fn counts_levels<S: Declaring<u8>>(rt: &impl Abort, s: &mut S) -> Result<(), Fail> {
     shadows(rt, s)?;
+    s.declare(135, 4)?;
+    assert_eq!(rt; s.look(135), Some(4));
+    s.enter()?;
+    assert_eq!(rt; number_of(s.declare(7, 3)), 45);
+    s.leave()?;
     shadows(rt, s)
 }
 
@@ -138,8 +140,15 @@ fn memory_past_the_capacity(rt: HostRuntime) -> Result<(), Fail> {
 #[test]
 fn names_are_shadowed(rt: HostRuntime) -> Result<(), Fail> {
     let mut lent = [GARBAGE; 3];
-    shadows_again(&rt, &mut Pile::new(&mut lent))?;
-    shadows_again(&rt, &mut Chains::new(&mut lent))
+    shadows(&rt, &mut Pile::new(&mut lent))?;
+    shadows(&rt, &mut Chains::new(&mut lent))
+}
+
+#[test]
+fn levels_share_the_entries(rt: HostRuntime) -> Result<(), Fail> {
+    let mut lent = [GARBAGE; 3];
+    counts_levels(&rt, &mut Pile::new(&mut lent))?;
+    counts_levels(&rt, &mut Chains::new(&mut lent))
 }
 
 #[test]
