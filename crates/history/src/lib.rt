@@ -8,22 +8,16 @@ ghost use Rattle.history.specs.Example.{example, Promises};
 ghost use Rattle.history.specs.Trial.{Trial};
 
 // Of every history of calls since an accepted fresh: what each call answers and leaves, and what a reader then gives.
-pub fn law() -> u8
+pub fn law()
     ensures law { Law example }
-{
-    0
-}
+{}
 
 // Of one call, reader or question on a book that stands as some history says.
-pub fn promise() -> u8
+pub fn promise()
     ensures law { Promises }
-{
-    0
-}
+{}
 
 // A run of edits and checks, each refusal, and a sheet altered from outside, computed.
-pub fn trial() -> u8
+pub fn trial()
     ensures law { Trial }
-{
-    0
-}
+{}
