@@ -1,4 +1,4 @@
-// The typing rules of CPP and the walk that decides them: definitions and theorems, with no code of their own.
+// The typing rules of CPP and the walk that decides them: definitions and theorems, with no code but the numbers of violations.
 
 #![tactic(auto)]
 

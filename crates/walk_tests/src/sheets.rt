@@ -29,7 +29,7 @@ fn used<V>(value: V) -> Entry<V> {
 pub fn told(answer: Result<Verdict, Refusal>) -> (usize, usize) {
     match answer {
         Ok(Verdict::Valid) => (0, 0),
-        Ok(Verdict::Broken(violation, place)) => (violation as usize + 51, place),
+        Ok(Verdict::Broken(violation, place)) => (usize::from(u8::from(violation)), place),
         Ok(Verdict::Altered) => (38, 0),
         Err(Refusal::OtherColumn) => (1, 0),
         Err(Refusal::SmallStore) => (2, 0),
