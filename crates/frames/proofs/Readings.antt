@@ -1,14 +1,16 @@
 -- What stands in front of a formed sheet's array is what its frames tell.
-use Rattle.std.proofs.Common.{◌≡◌, ℕ, ◌+◌, ◌<◌, ◌≤◌, true, List, length, get_or, take, Some, None, sym, ap, ◌∙◌, subst, arith}
+use Rattle.std.proofs.Common.{◌≡◌, ℕ, ◌+◌, ◌<◌, ◌≤◌, true, List, length, get_or, take, Some, Result, sym, ap, ◌∙◌, subst, arith}
 use Rattle.std.proofs.lemmas.List.{get_or-take, length-take-le}
 use Rattle.syntax.specs.declared.frame.Frame.{Frame}
+use Rattle.std.specs.Result.{IsOk}
 use Rattle.syntax.specs.declared.frame.«Type».{«Type» as Ty}
+use Rattle.syntax.specs.declared.frame.UnknownType.{UnknownType}
 use Rattle.syntax.specs.Writing.{type_code, blank}
-use Rattle.syntax.specs.Types.{TypeOf}
+use Rattle.syntax.specs.Types.{Decodes}
 use Rattle.syntax.specs.Form.{is_sheet}
 use Rattle.syntax.specs.Law.{OfTree}
 use Rattle.syntax.specs.Heads.{head, param_frame, ParamAt}
-use Rattle.syntax.proofs.Types.{type_code_once}
+use Rattle.syntax.proofs.Types.{type_code_once, decodes_some}
 use Rattle.syntax.proofs.Heads.{head_name, head_type, head_params, two_frames, few_params, params_end, returns_coded, param_coded}
 
 module _ (xs : List Frame) (n : ℕ) (l : length xs ≡ 256) (h : n ≤ 256) (ok : is_sheet (take n xs) ≡ true) where
@@ -37,8 +39,9 @@ module _ (xs : List Frame) (n : ℕ) (l : length xs ≡ 256) (h : n ≤ 256) (ok
   pub returns_tree : (t : Ty) → type_code t ≡ (get_or xs 0 blank).t → OfTree (take n xs) (λ d. d.returns) t
   returns_tree t c d e = type_code_once t d.returns (returns_front t c ∙ head_type (take n xs) d e)
 
-  pub returns_some : TypeOf (get_or xs 0 blank).t None → ⊥
-  returns_some none = let t = returns_coded (take n xs) ok in none t.0 (t.1 ∙ ap (λ (f : Frame). f.t) (sym head_there))
+  -- HEAD's field has the number of a type
+  pub returns_some : (r : Result Ty UnknownType) → Decodes (get_or xs 0 blank).t r → IsOk r
+  returns_some r h = let t = returns_coded (take n xs) ok in decodes_some _ r h t.0 (t.1 ∙ ap (λ (f : Frame). f.t) (sym head_there))
 
   module _ (i : ℕ) (few : i < (head (take n xs)).load) where
     pub param_there : get_or xs (i + 1) blank ≡ get_or (take n xs) (i + 1) blank
@@ -47,8 +50,9 @@ module _ (xs : List Frame) (n : ℕ) (l : length xs ≡ 256) (h : n ≤ 256) (ok
         let s = length_front in
         sym (get_or-take n xs (i + 1) blank (omega arith))
 
-    pub param_some : TypeOf (get_or xs (i + 1) blank).t None → ⊥
-    param_some none = let p = param_coded (take n xs) ok i few in none p.0.t (ap (λ (f : Frame). f.t) (sym (param_there ∙ p.1)))
+    -- PARAM's field has the number of a type
+    pub param_some : (r : Result Ty UnknownType) → Decodes (get_or xs (i + 1) blank).t r → IsOk r
+    param_some r h = let p = param_coded (take n xs) ok i few in decodes_some _ r h p.0.t (ap (λ (f : Frame). f.t) (sym (param_there ∙ p.1)))
 
     pub param_front : (t : Ty) → type_code t ≡ (get_or xs (i + 1) blank).t → ParamAt (take n xs) i (Some (record { t = t; name = (get_or xs (i + 1) blank).name }))
     param_front t c =

@@ -5,10 +5,8 @@
 pub mod formed;
 mod kinds;
 mod machine;
-pub mod types;
 
 pub use codec::{read, write};
 pub use formed::Formed;
 pub use formed::forming::form;
-pub use syntax::{Diagnostic, Fault, Frame, Parameter, Type};
-pub use types::{type_code, type_of};
+pub use syntax::{Diagnostic, Fault, Frame, Parameter, Type, UnknownType};

@@ -1,7 +1,6 @@
 // The form of a sheet: what is accepted, and what is refused where.
 use drafts::*;
-use frames::{Formed, Frame, form, type_code, type_of};
-use std::test::Fail;
+use frames::{Formed, Frame, Type, form};
 
 mod drafts;
 mod fields;
@@ -93,10 +92,10 @@ fn operands_are_counted(rt: HostRuntime) {
 #[test]
 fn a_refusal_leaves_the_sheet(rt: HostRuntime) {
     let mut sheet = Formed::new();
-    assert!(rt; sheet.count() == 2 && sheet.name() == 0 && type_code(sheet.returns()) == 5);
+    assert!(rt; sheet.count() == 2 && sheet.name() == 0 && sheet.returns() == Type::Void);
     assert!(rt; form(&[head_of(0), RETV, END], &mut sheet).is_ok());
     assert!(rt; form(&[HEAD, RETV], &mut sheet).is_err());
-    assert!(rt; sheet.count() == 3 && sheet.name() == 500 && type_code(sheet.returns()) == 4);
+    assert!(rt; sheet.count() == 3 && sheet.name() == 500 && sheet.returns() == Type::String);
 }
 
 // Whether the sheet has that one parameter.
@@ -104,7 +103,7 @@ fn has_param(sheet: &Formed, t: u8, name: u16) -> bool {
     match sheet.param(0) {
         None => false,
         Some(p) => sheet.param_count() == 1
-            && type_code(p.t) == t
+            && u8::from(p.t) == t
             && p.name == name
             && sheet.param(1).is_none(),
     }
@@ -118,10 +117,9 @@ fn a_sheet_tells_its_parameters(rt: HostRuntime) {
 }
 
 #[test]
-fn types_and_numbers(rt: HostRuntime) -> Result<(), Fail> {
+fn types_and_numbers(rt: HostRuntime) {
     for n in 1..6u8 {
-        assert_eq!(rt; type_code(type_of(n).ok_or("none")?), n);
+        assert_eq!(rt; Type::try_from(n).map(u8::from), Ok(n));
     }
-    assert!(rt; type_of(0).is_none() && type_of(6).is_none());
-    Ok(())
+    assert!(rt; Type::try_from(0).is_err() && Type::try_from(6).is_err());
 }

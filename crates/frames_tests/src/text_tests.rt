@@ -1,13 +1,6 @@
 // Reading and writing text.
-use frames::{Frame, read, write};
+use frames::{Diagnostic, Frame, read, write};
 use std::test::Fail;
-
-const BLANK: Frame = Frame {
-    kind: 0,
-    t: 0,
-    name: 0,
-    load: 0,
-};
 
 // A frame with another digit at every place of its text.
 const SAMPLE: Frame = Frame {
@@ -21,14 +14,14 @@ const LINE: &[u8; 17] = b"0123456789ABCDEF\n";
 
 // Whether reading the text into that many frames is refused with that number at that place.
 fn refused(text: &[u8], room: usize, number: u8, place: usize) -> bool {
-    let mut area = [BLANK; 257];
+    let mut area = [Frame::BLANK; 257];
     if room > 257 {
         return false;
     }
     match read(text, &mut area[0..room]) {
         Ok(_) => false,
         Err(e) => {
-            let d = e.diagnostic();
+            let d = Diagnostic::from(e);
             d.number == number && d.layer == 1 && d.sheet == 255 && d.place == place
         }
     }
@@ -36,7 +29,7 @@ fn refused(text: &[u8], room: usize, number: u8, place: usize) -> bool {
 
 // Whether the text is read as so many frames.
 fn accepted(text: &[u8], room: usize, count: usize) -> bool {
-    let mut area = [BLANK; 257];
+    let mut area = [Frame::BLANK; 257];
     if room > 257 {
         return false;
     }
@@ -74,7 +67,7 @@ fn texts_that_are_refused(rt: HostRuntime) {
 
 #[test]
 fn frames_read_before_a_fault_stay(rt: HostRuntime) {
-    let mut area = [BLANK; 3];
+    let mut area = [Frame::BLANK; 3];
     assert!(rt; read(b"0123456789ABCDEF\nzz", &mut area).is_err());
     assert!(rt;
         area[0].kind == 0x01

@@ -1,5 +1,5 @@
 -- What each fault stands for: its number, layer, sheet and place.
-use Rattle.std.specs.Prelude.{ℕ}
+use Rattle.std.specs.Prelude.{ℕ, List, ◌++◌, codes, decimal}
 use Rattle.syntax.specs.declared.fault.Fault.{Fault}
 use Rattle.syntax.specs.declared.fault.Fault.TheVariants.{BadLine, FramesFull, TextShort, TooLong, UnknownKind, BadField, NotAllowed, TooDeep, NoEnd, AfterEnd}
 use Rattle.syntax.specs.declared.fault.Diagnostic.{Diagnostic}
@@ -50,3 +50,7 @@ place (AfterEnd k) = k
 -- the four together, as a host reports them
 abbrev pub diagnosed : Fault → Diagnostic
 diagnosed e = record { number = number e; layer = layer e; sheet = sheet e; place = place e }
+
+-- the four as text: in decimal, with a blank between two
+abbrev pub diagnostic_text : Diagnostic → List ℕ
+diagnostic_text d = decimal d.number ++ (codes " " ++ (decimal d.layer ++ (codes " " ++ (decimal d.sheet ++ (codes " " ++ decimal d.place)))))

@@ -15,7 +15,8 @@ pub enum Fault {
     AfterEnd(usize),
 }
 
-// A fault as a host reports it: its number, the layer that found it, and the sheet and place where.
+// A fault as a host reports it: its number, the layer that found it, and the sheet and place where. The fields are numbers
+// since the format of a report has numbers; 255 stands for no sheet.
 #[derive(Clone, Copy, PartialEq, Eq, Debug)]
 pub struct Diagnostic {
     pub number: u8,

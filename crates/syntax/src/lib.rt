@@ -9,6 +9,6 @@ pub mod kinds;
 pub mod stages;
 
 pub use fault::{Diagnostic, Fault};
-pub use frame::{Frame, Parameter, Type};
+pub use frame::{Frame, Parameter, Type, UnknownType};
 pub use kinds::{Role, Row, Span};
 pub use stages::{Stage, Unfinished};

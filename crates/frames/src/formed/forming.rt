@@ -13,31 +13,21 @@ use syntax::{Fault, Frame};
 // So many frames may a sheet have.
 const LONGEST: usize = 256;
 
-const BLANK: Frame = Frame {
-    kind: 0,
-    t: 0,
-    name: 0,
-    load: 0,
-};
-
 impl Formed {
     // At first HEAD of void 0, and END.
     pub fn new() -> Self
         ensures result { Filled (frame 0x01 5 0 0 ∷ (frame 0x03 0 0 0 ∷ [])) result }
         ensures tree { written nothing_done ≡ frames_of result }
     {
-        let mut frames = [BLANK; 256];
+        let mut frames = [Frame::BLANK; 256];
         frames[0] = Frame {
             kind: 0x01,
             t: 5,
-            name: 0,
-            load: 0,
+            ..Frame::BLANK
         };
         frames[1] = Frame {
             kind: 0x03,
-            t: 0,
-            name: 0,
-            load: 0,
+            ..Frame::BLANK
         };
         Formed { frames, count: 2 }
     }
@@ -63,7 +53,7 @@ fn padded(frames: &[Frame]) -> [Frame; 256]
     requires { length frames.now ≤ 256 }
     ensures { result ≡ frames.now ++ replicate (256 - length frames.now) blank }
 {
-    let mut sheet = [BLANK; 256];
+    let mut sheet = [Frame::BLANK; 256];
     let n = frames.len();
     sheet[0..n].copy_from_slice(frames);
     sheet

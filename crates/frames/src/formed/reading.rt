@@ -7,7 +7,6 @@ ghost use Rattle.syntax.specs.Heads.{head, ParamAt};
 ghost use Rattle.frames.specs.Sheets.{frames_of, sheet_of};
 
 use super::Formed;
-use crate::types::type_of;
 use syntax::{Frame, Parameter, Type};
 
 impl Formed {
@@ -48,10 +47,7 @@ impl Formed {
         ensures result { type_code result ≡ (head (frames_of self.now)).t }
         ensures tree { OfTree (frames_of self.now) (λ d. d.returns) result }
     {
-        match type_of(self.frames[0].t) {
-            Some(t) => t,
-            None => Type::Void,
-        }
+        Type::try_from(self.frames[0].t).unwrap()
     }
 
     // How many parameters it has.
@@ -71,10 +67,11 @@ impl Formed {
         if i >= self.param_count() {
             return None;
         }
-        let f = self.frames[i + 1];
-        match type_of(f.t) {
-            Some(t) => Some(Parameter { t, name: f.name }),
-            None => None,
-        }
+        let frame = self.frames[i + 1];
+        let t = Type::try_from(frame.t).unwrap();
+        Some(Parameter {
+            t,
+            name: frame.name,
+        })
     }
 }

@@ -4,7 +4,7 @@ ghost use Rattle.syntax.specs.Form.{start, allow, step, ending};
 ghost use Rattle.frames.specs.States.{state_of, Does, Judged};
 
 use super::Machine;
-use crate::kinds::{row_of, suits};
+use crate::kinds::row_of;
 use syntax::{Fault, Frame, Role, Stage, Unfinished};
 
 impl Machine {
@@ -84,7 +84,7 @@ impl Machine {
         match row_of(f.kind) {
             None => Err(Fault::UnknownKind(place)),
             Some(row) => {
-                if !suits(row, f) {
+                if !row.suits(f) {
                     return Err(Fault::BadField(place));
                 }
                 self.allow_role(row.role, f.load, place)

@@ -1,8 +1,7 @@
-use Rattle.syntax.proofs.Rows.{get_d_rows, row_past}
+use Rattle.std.proofs.Common.{ap, ◌∙◌}
+use Rattle.syntax.specs.Kinds.{row}
+use Rattle.syntax.proofs.Rows.{get_d_rows}
 use Rattle.frames.proofs.kinds.row_of.Goals as goal
 
-pub returns-then-kind-ge61 : goal.returns-then-kind-ge61
-returns-then-kind-ge61 c = row_past c.args.kind c.if-kind-ge61.true
-
 pub returns : goal.returns
-returns c = get_d_rows c.args.kind _ c.if-kind-ge61.false
+returns c = let h = c.in_ok-get.ensures.lookup in h.1 ∙ get_d_rows _ _ h.3.0 ∙ ap row c.from.ensures
