@@ -13,7 +13,7 @@ pub record Walked (xs : List ℕ) (n k i : ℕ) : Type 0 where
   pub same : 0 < i → bucket (get_or xs (i - 1) 0) ≡ bucket k
 
 module _ (xs : List ℕ) (n k : ℕ) where
-  pub walked_part : (i : ℕ) → Walked xs n k i → Clear (take n xs) k i
+  pub walked_part : (i : ℕ) → Walked xs n k i → Clear 0 (take n xs) k i
   walked_part i w j h l e =
       let s = length-take n xs in
       let q : j < n = omega arith in

@@ -1,43 +1,48 @@
 // The one search for an element by its name.
-ghost use Rattle.std.specs.Prelude.{◌≡◌, ℕ, map};
-ghost use Rattle.levels.specs.Search.{newest_of, Newest};
+ghost use Rattle.std.specs.Prelude.{◌≡◌, ℕ, map, Option, Some, None};
+ghost use Rattle.std.specs.Option.{option_and_then};
+ghost use Rattle.levels.specs.Search.{newest_labelled, Newest};
 
 use crate::entry::Entry;
 use syntax::Frame;
 
-// What has a name.
+// What may have a name.
 pub trait Named {
-    ghost label: { Self → ℕ };
+    ghost label: { Self → Option ℕ };
 
-    fn name(&self) -> u16
+    fn name(&self) -> Option<u16>
         ensures result { result ≡ label self.now };
 }
 
 impl<V> Named for Entry<V> {
-    ghost label = { λ e. e.name };
+    ghost label = { λ e. Some e.name };
 
-    fn name(&self) -> u16 {
-        self.name
+    fn name(&self) -> Option<u16> {
+        Some(self.name)
     }
 }
 
 impl Named for Frame {
-    ghost label = { λ f. f.name };
+    ghost label = { λ f. Some f.name };
 
-    fn name(&self) -> u16 {
-        self.name
+    fn name(&self) -> Option<u16> {
+        Some(self.name)
+    }
+}
+
+// A place that may be empty: nothing has no name.
+impl<T: Named> Named for Option<T> {
+    ghost label = { λ o. option_and_then T.Named.label o };
+
+    fn name(&self) -> Option<u16> {
+        self.as_ref()?.name()
     }
 }
 
 // The last place of the name in the slice.
 pub fn newest<T: Named>(items: &[T], name: u16) -> Option<usize>
-    ensures result { result ≡ newest_of (map T.Named.label items.now) name }
-    ensures law { Newest (map T.Named.label items.now) name result }
+    ensures result { result ≡ newest_labelled (map T.Named.label items.now) name }
+    ensures law { Newest None (map T.Named.label items.now) (Some name) result }
 {
-    for i in (0..items.len()).rev() {
-        if items[i].name() == name {
-            return Some(i);
-        }
-    }
-    None
+    items.iter().rposition(|item| item.name() == Some(name))
 }

@@ -21,7 +21,7 @@ const GARBAGE: Entry<u8> = Entry {
 fn number_of(r: Result<(), Refusal>) -> u8 {
     match r {
         Ok(()) => 0,
-        Err(e) => e.number(),
+        Err(e) => u8::from(e),
     }
 }
 

@@ -1,8 +1,8 @@
-use Rattle.std.proofs.Common.{◌≡◌, ◌-◌, ◌<◌, get_or, take, sym, ap, ◌∙◌, arith}
+use Rattle.std.proofs.Common.{◌≡◌, ◌-◌, ◌<◌, get_or, take, Some, None, sym, ap, ◌∙◌, arith}
 use Rattle.std.proofs.lemmas.List.{get_or-map, length-map, length-take, take-map, get_or-take}
 use Rattle.levels.specs.Search.{newest_of}
 use Rattle.levels.specs.Entries.{names, nexts}
-use Rattle.levels.proofs.Searching.{clear_none, newest_found}
+use Rattle.levels.proofs.Searching.{names_is}
 use Rattle.levels.proofs.Walking.{walked_part, walked_head, walked_next, next_low}
 use Rattle.levels.proofs.chains.walk.Goals as goal
 
@@ -25,8 +25,8 @@ returns-then-entries-i g c =
     let at : get_or (take n (names es)) (i - 1) 0 ≡ c.args.name =
     get_or-take n (names es) (i - 1) 0 h ∙ get_or-map (λ e. e.name) es (i - 1) c.index-entries-i.result 0 (omega arith) ∙ c.if-entries-i.true in
     record {
-      result = sym (ap (λ xs. newest_of xs c.args.name) (sym (take-map (λ e. e.name) n es))
-          ∙ newest_found (take n (names es)) (i - 1) c.args.name (omega arith) (λ j q. walked_part (names es) n c.args.name i c.loop-i.invariant j (omega arith)) at);
+      result = names_is (take n (names es)) c.args.name (Some (i - 1)) (omega arith, at, λ j q. walked_part (names es) n c.args.name i c.loop-i.invariant j (omega arith))
+          ∙ ap (λ xs. newest_of xs c.args.name) (take-map (λ e. e.name) n es);
     }
 
 pub loop-i-smaller : goal.loop-i-smaller
@@ -54,6 +54,6 @@ returns g c =
     let es = c.args.entries.now in
     let n = c.args.count in
     record {
-      result = sym (ap (λ xs. newest_of xs c.args.name) (sym (take-map (λ e. e.name) n es))
-          ∙ clear_none (take n (names es)) c.args.name 0 (λ j q. walked_part (names es) n c.args.name c.loop-i.i c.loop-i.invariant j (omega (arith, c.loop-i-test.false))));
+      result = names_is (take n (names es)) c.args.name None (λ j q. walked_part (names es) n c.args.name c.loop-i.i c.loop-i.invariant j (omega (arith, c.loop-i-test.false)))
+          ∙ ap (λ xs. newest_of xs c.args.name) (take-map (λ e. e.name) n es);
     }
