@@ -1,4 +1,2 @@
-pub mod Stack
-pub mod Padded
 pub mod Readings
 pub mod Verdicts

@@ -5,7 +5,8 @@ ghost use Rattle.syntax.specs.Writing.{blank};
 
 use syntax::Frame;
 
-// The frames of the sheet stand in front, and blank ones after them.
+// The frames of the sheet stand in front, and blank ones after them: an array with its count, since `sheet` lends all 256
+// places, the blank ones too, and a sheet keeps its frames in itself (no heap).
 #[derive(Drop)]
 pub struct Formed {
     frames: [Frame; 256],

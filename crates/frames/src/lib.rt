@@ -5,8 +5,10 @@
 pub mod formed;
 mod kinds;
 mod machine;
+pub mod things;
 
 pub use codec::{read, write};
 pub use formed::Formed;
 pub use formed::forming::form;
 pub use syntax::{Diagnostic, Fault, Frame, Parameter, Type, UnknownType};
+pub use things::{Things, TooDeep};

@@ -1,17 +1,18 @@
 // The machine that reads a sheet's frames.
 ghost use Rattle.std.specs.Prelude.{◌≤◌};
 
-use syntax::{Stage, Unfinished};
+use crate::things::Things;
+use syntax::Stage;
 
-// The unfinished things stand in the front of the stack, the innermost last.
+// What comes next, the unfinished things, the operands ready, and how many frames were taken.
 #[derive(Drop)]
 pub struct Machine {
     stage: Stage,
-    stack: [Unfinished; 32],
-    depth: usize,
+    things: Things,
     ready: usize,
-    ghost deep: { depth ≤ 32 },
+    place: usize,
+    ghost short: { place ≤ 256 },
+    ghost few: { ready ≤ place },
 }
 
 pub mod steps;
-pub mod things;

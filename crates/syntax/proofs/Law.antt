@@ -1,5 +1,5 @@
 -- The law of the form: accepted are exactly the writings of trees within the limits, each of one tree.
-use Rattle.std.proofs.Common.{◌≡◌, ℕ, ◌≤◌, true, List, length, sym, refl, ap, ◌∙◌, subst}
+use Rattle.std.proofs.Common.{◌≡◌, ℕ, true, List, sym, refl, ap, ◌∙◌}
 use Rattle.std.proofs.lemmas.Bool.{false≢true}
 use Rattle.syntax.specs.declared.frame.Frame.{Frame}
 use Rattle.syntax.specs.Form.{fine, refused, Verdict, accepted, forms, is_fine, is_sheet}
@@ -21,9 +21,6 @@ exactly fs = go (forms fs) refl
     go : (v : Verdict) → forms fs ≡ v → Exactly fs v
     go (fine u) e = has_tree fs e
     go (refused n p) e = has_no_tree fs n p e
-
-pub length_accepted : (fs : List Frame) → forms fs ≡ accepted → length fs ≤ 256
-length_accepted fs h = let p = accepted_tree fs h in subst (λ (x : List Frame). length x ≤ 256) p.2 p.1.frames
 
 is_fine_accepted : (v : Verdict) → is_fine v ≡ true → v ≡ accepted
 is_fine_accepted (fine u) h = refl

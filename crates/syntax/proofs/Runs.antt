@@ -1,9 +1,9 @@
 -- The run over the frames, one at a time.
 use Rattle.std.proofs.Common.{◌≡◌, ℕ, ◌+◌, ◌<◌, ◌≤◌, ltb, List, length, get_or, drop, refl, ◌∙◌}
-use Rattle.std.proofs.lemmas.List.{at_drop_more, at_drop_all}
+use Rattle.std.proofs.lemmas.List.{at_drop_more}
 use Rattle.std.proofs.lemmas.Bool.{le-ltb, lt-ltb, cond-true, cond-false}
 use Rattle.syntax.specs.declared.frame.Frame.{Frame}
-use Rattle.syntax.specs.Form.{fine, refused, State, step, run, start, forms, ending}
+use Rattle.syntax.specs.Form.{fine, refused, State, step, run, start, forms}
 
 pub forms_long : (fs : List Frame) → 256 < length fs → forms fs ≡ refused 20 256
 forms_long fs h = cond-true (ltb 256 (length fs)) (refused 20 256) (run 0 start fs) (lt-ltb 256 (length fs) h)
@@ -14,9 +14,3 @@ forms_short fs h = cond-false (ltb 256 (length fs)) (refused 20 256) (run 0 star
 module _ (fs : List Frame) (i : ℕ) (s : State) where
   pub run_more : (z : Frame) (t : State) → i < length fs → step i s (get_or fs i z) ≡ fine t → run i s (drop i fs) ≡ run (i + 1) t (drop (i + 1) fs)
   run_more z t h e = at_drop_more (run i s) fs i z h ∙ rw (e, run) refl
-
-  pub run_stop : (z : Frame) (n p : ℕ) → i < length fs → step i s (get_or fs i z) ≡ refused n p → run i s (drop i fs) ≡ refused n p
-  run_stop z n p h e = at_drop_more (run i s) fs i z h ∙ rw (e, run) refl
-
-  pub run_end : length fs ≤ i → run i s (drop i fs) ≡ ending i s.stage
-  run_end h = at_drop_all (run i s) fs i h

@@ -15,20 +15,10 @@ not_ended Body h = refl
 not_ended Ended h = absurd (h refl)
 
 module _ (p : ℕ) (s : State) (f : Frame) where
-  pub step_ended : s.stage ≡ Ended → step p s f ≡ refused 26 p
-  unfolding step
-  step_ended e = rw e refl
-
   module _ (g : has_ended s.stage ≡ false) where
     tested : (o : Option Row) → o ≡ row f.kind → step p s f ≡ known p s f o
     unfolding step
     tested o e = ap (λ b. cond b (refused 26 p) (known p s f (row f.kind))) g ∙ ap (known p s f) (sym e)
-
-    pub step_unknown : None ≡ row f.kind → step p s f ≡ refused 21 p
-    step_unknown e = tested None e
-
-    pub step_unfit : (r : Row) → Some r ≡ row f.kind → fields_fit r f ≡ false → step p s f ≡ refused 22 p
-    step_unfit r e h = tested (Some r) e ∙ ap (λ b. cond b (allow p r.role f.load s.stage s.stack s.ready) (refused 22 p)) h
 
     pub step_fit : (r : Row) → Some r ≡ row f.kind → fields_fit r f ≡ true → step p s f ≡ allow p r.role f.load s.stage s.stack s.ready
     step_fit r e h = tested (Some r) e ∙ ap (λ b. cond b (allow p r.role f.load s.stage s.stack s.ready) (refused 22 p)) h

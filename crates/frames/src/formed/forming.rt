@@ -35,17 +35,16 @@ impl Formed {
 
 // Takes the frames through the machine.
 fn judged(frames: &[Frame]) -> Result<(), Fault>
-    ensures result { Judged (forms frames.now) result }
-    ensures law { Lawful frames.now result }
+    ensures { Judged (forms frames.now) result }
 {
     if frames.len() > LONGEST {
         return Err(Fault::TooLong);
     }
     let mut m = Machine::new();
-    for (i, f) in frames.iter().enumerate() {
-        m.take_frame(*f, i)?;
+    for f in frames {
+        m.take_frame(*f)?;
     }
-    m.ended_at(frames.len())
+    m.ended()
 }
 
 // The frames, and blank ones after them.
@@ -54,8 +53,7 @@ fn padded(frames: &[Frame]) -> [Frame; 256]
     ensures { result ≡ frames.now ++ replicate (256 - length frames.now) blank }
 {
     let mut sheet = [Frame::BLANK; 256];
-    let n = frames.len();
-    sheet[0..n].copy_from_slice(frames);
+    sheet[..frames.len()].copy_from_slice(frames);
     sheet
 }
 
@@ -64,14 +62,14 @@ fn fill(frames: &[Frame], into: &mut Formed)
     requires { forms frames.now ≡ accepted }
     ensures { Filled frames.now into.new }
 {
-    let sheet = padded(frames);
     *into = Formed {
-        frames: sheet,
+        frames: padded(frames),
         count: frames.len(),
     };
 }
 
 // Fills the sheet with the frames if they have the form of one; a refusal leaves it as it was.
+#[tactic(auto, using(crate::proofs::Verdicts::lawful))]
 pub fn form(frames: &[Frame], into: &mut Formed) -> Result<(), Fault>
     ensures result { Judged (forms frames.now) result }
     ensures leaves { Leaves frames.now into.old into.new result }

@@ -23,7 +23,7 @@ impl Formed {
         ensures result { result.now ≡ frames_of self.now }
         ensures tree { HasTree result.now }
     {
-        &self.frames[0..self.count]
+        &self.frames[..self.count]
     }
 
     // The sheet's frames, and blank ones up to 256.

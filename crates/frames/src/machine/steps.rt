@@ -1,104 +1,121 @@
 // What the machine does with each frame.
-ghost use Rattle.std.specs.Prelude.{◌≡◌, ◌+◌, ◌≤◌};
-ghost use Rattle.syntax.specs.Form.{start, allow, step, ending};
-ghost use Rattle.frames.specs.States.{state_of, Does, Judged};
+ghost use Rattle.std.specs.Prelude.{◌≡◌, ℕ, ◌+◌, ◌<◌, OnOk};
+ghost use Rattle.syntax.specs.Form.{at, start, await_params, await_names, begin, allow, step, ending};
+ghost use Rattle.frames.specs.States.{state_of, Allows, Does, Judged};
 
 use super::Machine;
 use crate::kinds::row_of;
+use crate::things::Things;
 use syntax::{Fault, Frame, Role, Stage, Unfinished};
+
+// What comes next where so many parameters are to come.
+fn await_params(n: u32) -> Stage
+    ensures { (u : _) (r : ℕ) → at result u r ≡ await_params n u r }
+{
+    if n == 0 {
+        Stage::Body
+    } else {
+        Stage::Params(n)
+    }
+}
+
+// What comes next where so many names of a declaration are to come; with none it is finished.
+fn await_names(n: u32, things: &mut Things) -> Stage
+    ensures { (r : ℕ) → at result things.new r ≡ await_names n things.old r }
+{
+    if n > 0 {
+        return Stage::Names(n);
+    }
+    things.finish();
+    Stage::Body
+}
 
 impl Machine {
     pub(crate) fn new() -> Self
-        ensures { state_of result ≡ start }
+        ensures state { state_of result ≡ start }
+        ensures place { result.place ≡ 0 }
     {
         Machine {
             stage: Stage::Start,
-            stack: [Unfinished::Block; 32],
-            depth: 0,
+            things: Things::new(),
             ready: 0,
+            place: 0,
         }
     }
 
-    // What a frame of that role and load does where the machine stands.
-    fn allow_role(&mut self, role: Role, load: u32, place: usize) -> Result<(), Fault>
-        requires { self.old.ready ≤ 256 }
-        ensures result { Does (allow place role load self.old.stage (state_of self.old).stack self.old.ready) self.old self.new result }
-        ensures bound { self.new.ready ≤ self.old.ready + 1 }
+    // Begins an unfinished thing, and answers what comes next.
+    fn begin(&mut self, thing: Unfinished) -> Result<(Stage, usize), Fault>
+        ensures { Allows (begin self.old.place thing self.old.things) self.old self.new result }
+    {
+        match self.things.begin(thing) {
+            Ok(()) => Ok((Stage::Body, 0)),
+            Err(_) => Err(Fault::TooDeep(self.place)),
+        }
+    }
+
+    // What comes next after a frame of that role and load, and how many operands are ready then.
+    fn allow_role(&mut self, role: Role, load: u32) -> Result<(Stage, usize), Fault>
+        ensures { Allows (allow self.old.place role load self.old.stage self.old.things self.old.ready) self.old self.new result }
     {
         match (self.stage, role, self.ready) {
-            (Stage::Start, Role::Head, _) => {
-                self.stage = if load == 0 {
-                    Stage::Body
-                } else {
-                    Stage::Params(load)
-                };
-                Ok(())
-            }
-            (Stage::Params(n), Role::Param, _) => {
-                self.stage = if n <= 1 {
-                    Stage::Body
-                } else {
-                    Stage::Params(n - 1)
-                };
-                Ok(())
-            }
-            (Stage::Names(n), Role::Name, _) => {
-                self.await_names(n.saturating_sub(1));
-                Ok(())
+            (Stage::Start, Role::Head, k) => Ok((await_params(load), k)),
+            (Stage::Params(n), Role::Param, k) => Ok((await_params(n.saturating_sub(1)), k)),
+            (Stage::Names(n), Role::Name, k) => {
+                Ok((await_names(n.saturating_sub(1), &mut self.things), k))
             }
             (Stage::Body, Role::Operand(n), k) if k >= n as usize => {
-                self.ready = k - n as usize + 1;
-                Ok(())
+                Ok((Stage::Body, k - n as usize + 1))
             }
             (Stage::Body, Role::Call, k) if k >= load as usize => {
-                self.ready = k - load as usize + 1;
-                Ok(())
+                Ok((Stage::Body, k - load as usize + 1))
             }
             (Stage::Body, Role::Statement(n), k) if k == n as usize => {
-                self.ready = 0;
-                self.finish_statement();
-                Ok(())
+                self.things.finish();
+                Ok((Stage::Body, 0))
             }
-            (Stage::Body, Role::Decl, 0) => {
-                self.await_names(load);
-                Ok(())
+            (Stage::Body, Role::Decl, 0) => Ok((await_names(load, &mut self.things), 0)),
+            (Stage::Body, Role::While, 1) => self.begin(Unfinished::Loop),
+            (Stage::Body, Role::If, 1) => self.begin(Unfinished::Choice(2)),
+            (Stage::Body, Role::Open, 0) => self.begin(Unfinished::Block),
+            (Stage::Body, Role::Close, 0) if self.things.innermost() == Some(Unfinished::Block) => {
+                self.things.close();
+                Ok((Stage::Body, 0))
             }
-            (Stage::Body, Role::While, 1) => self.begin_thing(Unfinished::Loop, place),
-            (Stage::Body, Role::If, 1) => self.begin_thing(Unfinished::Choice(2), place),
-            (Stage::Body, Role::Open, 0) => self.begin_thing(Unfinished::Block, place),
-            (Stage::Body, Role::Close, 0) => self.close_block(place),
-            (Stage::Body, Role::End, 0) => self.end_sheet(place),
-            _ => Err(Fault::NotAllowed(place)),
+            (Stage::Body, Role::End, 0) if self.things.is_empty() => Ok((Stage::Ended, 0)),
+            _ => Err(Fault::NotAllowed(self.place)),
         }
     }
 
     // Takes one frame more.
-    pub(crate) fn take_frame(&mut self, f: Frame, place: usize) -> Result<(), Fault>
-        requires { self.old.ready ≤ 256 }
-        ensures result { Does (step place (state_of self.old) f) self.old self.new result }
-        ensures bound { self.new.ready ≤ self.old.ready + 1 }
+    #[tactic(auto, using(syntax::proofs::Turns::not_ended), unfolding(syntax::specs::Form::step))]
+    pub(crate) fn take_frame(&mut self, f: Frame) -> Result<(), Fault>
+        requires { self.old.place < 256 }
+        ensures result { Does (step self.old.place (state_of self.old) f) self.old self.new result }
+        ensures place { OnOk result (self.new.place ≡ self.old.place + 1) }
     {
-        if let Stage::Ended = self.stage {
-            return Err(Fault::AfterEnd(place));
+        if self.stage == Stage::Ended {
+            return Err(Fault::AfterEnd(self.place));
         }
-        match row_of(f.kind) {
-            None => Err(Fault::UnknownKind(place)),
-            Some(row) => {
-                if !row.suits(f) {
-                    return Err(Fault::BadField(place));
-                }
-                self.allow_role(row.role, f.load, place)
-            }
+        let Some(row) = row_of(f.kind) else {
+            return Err(Fault::UnknownKind(self.place));
+        };
+        if !row.suits(f) {
+            return Err(Fault::BadField(self.place));
         }
+        let (stage, ready) = self.allow_role(row.role, f.load)?;
+        self.stage = stage;
+        self.ready = ready;
+        self.place += 1;
+        Ok(())
     }
 
-    // Whether the sheet has ended, at that count of frames.
-    pub(crate) fn ended_at(&self, count: usize) -> Result<(), Fault>
-        ensures { Judged (ending count self.now.stage) result }
+    // Whether the sheet has ended with the frames that were taken.
+    pub(crate) fn ended(&self) -> Result<(), Fault>
+        ensures { Judged (ending self.now.place self.now.stage) result }
     {
         match self.stage {
             Stage::Ended => Ok(()),
-            _ => Err(Fault::NoEnd(count)),
+            _ => Err(Fault::NoEnd(self.place)),
         }
     }
 }

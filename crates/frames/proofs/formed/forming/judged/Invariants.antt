@@ -1,7 +1,7 @@
-use Rattle.std.proofs.Common.{◌≡◌, ◌≤◌, drop}
+use Rattle.std.proofs.Common.{◌≡◌, drop}
 use Rattle.syntax.specs.Form.{run, start}
 use Rattle.frames.specs.States.{state_of}
 use Rattle.frames.proofs.formed.forming.judged.Given as goal
 
-abbrev pub invariant-loop-i : goal.invariant-loop-i
-invariant-loop-i l = (l.m.ready ≤ l.i) × (run l.i (state_of l.m) (drop l.i l.frames) ≡ run 0 start l.frames)
+abbrev pub invariant-loop-f : goal.invariant-loop-f
+invariant-loop-f l = (l.m.place ≡ l.f-index) × (run l.f-index (state_of l.m) (drop l.f-index l.frames) ≡ run 0 start l.frames)
