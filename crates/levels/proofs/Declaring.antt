@@ -74,7 +74,7 @@ module _ {V : Type 0} (y : Layout) (es : List (Entry V)) (ok : ordered y.starts 
       let l = place_low b y.count c y.starts w in
       record { next = e; within = omega arith; level = place_level b y.count c y.starts w }
 
-  pub declare_made : (y' : Layout) (p q : ℕ) → y' ≡ grown y → Ok p ≡ answer_with why y.count → Declares (Ok tt) (store_of y' (set es p (record { name = k; value = v; next = q })))
+  pub declare_made : (y' : Layout) (p : ℕ) (q : Option ℕ) → y' ≡ grown y → Ok p ≡ answer_with why y.count → Declares (Ok tt) (store_of y' (set es p (record { name = k; value = v; next = q })))
   declare_made y' p q after h =
       let x : Entry V = record { name = k; value = v; next = q } in
       let at = declare_placed p h in

@@ -1,8 +1,6 @@
 pub mod Refusing
 pub mod Starting
-pub mod Tabling
 pub mod Reading
-pub mod Taking
 pub mod Searching
 pub mod Finding
 pub mod Cutting

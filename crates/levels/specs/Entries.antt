@@ -1,5 +1,6 @@
 -- What entries in lent memory hold.
-use Rattle.std.specs.Prelude.{ℕ, zero, suc, List, [], ◌∷◌, map, Some, None, Option}
+use Rattle.std.specs.Prelude.{ℕ, List, map, slice_get, Some, None, Option}
+use Rattle.std.specs.Option.{option_map}
 use Rattle.levels.specs.declared.entry.Entry.{Entry}
 
 module _ {V : Type 0} where
@@ -10,14 +11,12 @@ module _ {V : Type 0} where
   abbrev pub names : List (Entry V) → List ℕ
   names es = map (λ e. e.name) es
 
-  abbrev pub nexts : List (Entry V) → List ℕ
+  abbrev pub nexts : List (Entry V) → List (Option ℕ)
   nexts es = map (λ e. e.next) es
 
   -- the value of the i-th entry
   abbrev pub value_nth : List (Entry V) → ℕ → Option V
-  value_nth [] i = None
-  value_nth (e ∷ es) zero = Some e.value
-  value_nth (e ∷ es) (suc i) = value_nth es i
+  value_nth es i = option_map (λ e. e.value) (slice_get es i)
 
   -- the value of the entry at a place, if there is a place
   abbrev pub value_at : List (Entry V) → Option ℕ → Option V

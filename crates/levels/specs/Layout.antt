@@ -3,7 +3,6 @@ use Rattle.std.specs.Prelude.{ℕ, ◌+◌, Bool, false, List, [], ◌∷◌, ma
 use Rattle.levels.specs.declared.entry.Entry.{Entry}
 use Rattle.levels.specs.declared.table.LevelTable.{LevelTable}
 use Rattle.levels.specs.Refusals.{too_deep, unless}
-use Rattle.levels.specs.Starts.{newest_first}
 use Rattle.levels.specs.Entries.{pair}
 use Rattle.levels.specs.Store.{Store}
 
@@ -14,7 +13,7 @@ pub record Layout : Type 0 where
 
 -- what a level table says
 abbrev pub layout : LevelTable → Layout
-layout t = record { starts = newest_first t.depth t.starts; count = t.count }
+layout t = record { starts = reverse t.starts.items; count = t.count }
 
 abbrev pub no_levels : Layout
 no_levels = record { starts = []; count = 0 }

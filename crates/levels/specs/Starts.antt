@@ -1,9 +1,5 @@
 -- The starts of levels in a list of entries.
-use Rattle.std.specs.Prelude.{ℕ, Bool, ◌&&◌, List, [], ◌∷◌, reverse, take, ◌==◌, nat_le}
-
--- the first so many of the starts, newest first
-abbrev pub newest_first : ℕ → List ℕ → List ℕ
-newest_first depth starts = reverse (take depth starts)
+use Rattle.std.specs.Prelude.{ℕ, Bool, ◌&&◌, List, [], ◌∷◌, ◌==◌, nat_le}
 
 -- each start is at most the one above it, the top one at most the count, and the lowest is 0
 abbrev pub ordered : List ℕ → ℕ → Bool

@@ -1,11 +1,35 @@
 // The heads of chains of entries, a chain for each bucket of names.
-ghost use Rattle.std.specs.Prelude.{◌≡◌, length};
+ghost use Rattle.std.specs.Prelude.{◌≡◌, None, length, replicate, slice_index_or, slice_set};
+ghost use Rattle.levels.specs.Linked.{bucket};
 
-// A head is one more than the place of the newest entry in its chain, or 0.
+const BUCKETS: u16 = 64;
+
+// A head is the place of the newest entry in its chain, if there is one.
 #[derive(Drop)]
 pub struct Buckets {
-    heads: [usize; 64],
+    heads: [Option<usize>; 64],
     ghost size: { length heads ≡ 64 },
 }
 
-pub mod calls;
+impl Buckets {
+    // Empty chains.
+    pub fn new() -> Self
+        ensures result { result.heads ≡ replicate 64 None }
+    {
+        Buckets { heads: [None; 64] }
+    }
+
+    // The head of the chain that the name belongs to.
+    pub fn head(&self, name: u16) -> Option<usize>
+        ensures result { result ≡ slice_index_or self.now.heads (bucket name) None }
+    {
+        self.heads[(name % BUCKETS) as usize]
+    }
+
+    // Another head for the chain that the name belongs to.
+    pub fn set_head(&mut self, name: u16, head: Option<usize>)
+        ensures leaves { self.new.heads ≡ slice_set self.old.heads (bucket name) head }
+    {
+        self.heads[(name % BUCKETS) as usize] = head;
+    }
+}

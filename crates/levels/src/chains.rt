@@ -7,8 +7,8 @@ ghost use Rattle.levels.specs.Linked.{bucket, last_in, Threaded, Headed};
 
 use crate::buckets::Buckets;
 use crate::entry::Entry;
-use crate::entry::slices::{usable, value_at};
 use crate::refusal::Refusal;
+use crate::slices::{usable, value_at};
 use crate::store::{Declaring, Looking};
 use crate::table::LevelTable;
 
@@ -87,9 +87,7 @@ impl<'a, V: Copy> Declaring<V> for Chains<'a, V> {
     }
 
     fn leave(&mut self) -> Result<(), Refusal> {
-        let Some(start) = self.levels.top() else {
-            return Err(Refusal::NoneToLeave);
-        };
+        let start = self.levels.top().ok_or(Refusal::NoneToLeave)?;
         while self.levels.count() > start {
             self.unlink();
         }
@@ -97,30 +95,31 @@ impl<'a, V: Copy> Declaring<V> for Chains<'a, V> {
     }
 
     fn declare(&mut self, name: u16, value: V) -> Result<(), Refusal> {
-        let repeated = self.here(name);
-        let capacity = self.capacity();
-        let place = self.levels.place(repeated, capacity)?;
-        let next = self.buckets.head(name);
-        self.entries[place] = Entry { name, value, next };
-        self.buckets.set_head(name, place + 1);
+        let place = self.levels.place(self.here(name), self.capacity())?;
+        self.entries[place] = Entry {
+            name,
+            value,
+            next: self.buckets.head(name),
+        };
+        self.buckets.set_head(name, Some(place));
         self.levels.grow();
         Ok(())
     }
 }
 
 // The newest place of the name among the first `count` entries, along its chain.
-fn walk<V>(entries: &[Entry<V>], count: usize, head: usize, name: u16) -> Option<usize>
+fn walk<V>(entries: &[Entry<V>], count: usize, head: Option<usize>, name: u16) -> Option<usize>
     requires within { count ≤ length entries.now }
     requires threaded { Threaded (names entries.now) (nexts entries.now) count }
     requires headed { head ≡ last_in (names entries.now) count (bucket name) }
     ensures result { result ≡ newest_of (names (take count entries.now)) name }
 {
-    let mut i = head;
-    while i > 0 {
-        if entries[i - 1].name == name {
-            return Some(i - 1);
+    let mut next = head;
+    while let Some(i) = next {
+        if entries[i].name == name {
+            return Some(i);
         }
-        i = entries[i - 1].next;
+        next = entries[i].next;
     }
     None
 }

@@ -3,8 +3,6 @@
 pub struct Entry<V> {
     pub name: u16,
     pub value: V,
-    // one more than the place of the entry before it in its chain, or 0; only chains go by it
-    pub next: usize,
+    // the place of the entry before it in its chain, if there is one; only chains go by it
+    pub next: Option<usize>,
 }
-
-pub mod slices;

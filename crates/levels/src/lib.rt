@@ -2,11 +2,12 @@
 
 #![tactic(auto)]
 
-pub mod buckets;
+mod buckets;
 pub mod chains;
 pub mod entry;
 pub mod pile;
 pub mod refusal;
 pub mod search;
+mod slices;
 pub mod store;
-pub mod table;
+mod table;

@@ -1,13 +1,13 @@
 // A store that is searched from its newest entry.
-ghost use Rattle.std.specs.Prelude.{◌≡◌, min, [], length, take};
+ghost use Rattle.std.specs.Prelude.{◌≡◌, ◌≤◌, min, [], length, take};
 ghost use Rattle.levels.specs.Search.{newest_of};
 ghost use Rattle.levels.specs.Entries.{names};
 ghost use Rattle.levels.specs.Layout.{layout, store_of};
 
 use crate::entry::Entry;
-use crate::entry::slices::{usable, value_at};
 use crate::refusal::Refusal;
 use crate::search::newest;
+use crate::slices::{usable, value_at};
 use crate::store::{Declaring, Looking};
 use crate::table::LevelTable;
 
@@ -16,6 +16,7 @@ use crate::table::LevelTable;
 pub struct Pile<'a, V> {
     entries: &'a mut [Entry<V>],
     levels: LevelTable,
+    ghost within: { levels.count ≤ length entries.now },
 }
 
 impl<'a, V: Copy> Pile<'a, V> {
@@ -34,8 +35,7 @@ impl<'a, V: Copy> Pile<'a, V> {
     fn place_of(&self, name: u16) -> Option<usize>
         ensures result { result ≡ newest_of (names (take (layout self.now.levels).count self.now.entries.now)) name }
     {
-        let count = self.levels.count().min(self.entries.len());
-        newest(&self.entries[0..count], name)
+        newest(&self.entries[..self.levels.count()], name)
     }
 }
 
@@ -69,13 +69,11 @@ impl<'a, V: Copy> Declaring<V> for Pile<'a, V> {
     }
 
     fn declare(&mut self, name: u16, value: V) -> Result<(), Refusal> {
-        let repeated = self.here(name);
-        let capacity = self.capacity();
-        let place = self.levels.place(repeated, capacity)?;
+        let place = self.levels.place(self.here(name), self.capacity())?;
         self.entries[place] = Entry {
             name,
             value,
-            next: 0,
+            next: None,
         };
         self.levels.grow();
         Ok(())

@@ -1,59 +1,62 @@
-use Rattle.std.proofs.Common.{◌≡◌, ◌-◌, ◌<◌, get_or, take, Some, None, sym, ap, ◌∙◌, arith}
+use Rattle.std.proofs.Common.{◌≡◌, ℕ, ◌<◌, take, get_or, Some, None, Option, sym, ap, ◌∙◌, subst, arith}
 use Rattle.std.proofs.lemmas.List.{get_or-map, length-map, length-take, take-map, get_or-take}
 use Rattle.levels.specs.Search.{newest_of}
 use Rattle.levels.specs.Entries.{names, nexts}
 use Rattle.levels.proofs.Searching.{names_is}
-use Rattle.levels.proofs.Walking.{walked_part, walked_head, walked_next, next_low}
+use Rattle.levels.proofs.Linking.{up_to}
+use Rattle.levels.proofs.Walking.{Walked, walked_part, walked_head, walked_next, next_low}
 use Rattle.levels.proofs.chains.walk.Goals as goal
 
-pub loop-i-init : goal.loop-i-init
-loop-i-init g c = walked_head (names c.args.entries.now) c.args.count c.args.name c.args.head c.requires.headed
-
-pub bounds-entries-i : goal.bounds-entries-i
-bounds-entries-i g c = let w = c.loop-i.invariant.within in let v = c.requires.within in omega (arith, c.loop-i-test.true)
+pub loop-next-init : goal.loop-next-init
+loop-next-init g c = walked_head (names c.args.entries.now) c.args.count c.args.name c.args.head c.requires.headed
 
 pub returns-then-entries-i : goal.returns-then-entries-i
 returns-then-entries-i g c =
     let es = c.args.entries.now in
     let n = c.args.count in
-    let i = c.loop-i.i in
-    let w = c.loop-i.invariant.within in
+    let i = c.in-Some.i in
+    let P : Option ℕ → Type 0 = Walked (names es) n c.args.name in
+    let w = subst P c.in-Some.is c.loop-next.invariant in
+    let h : i < n = w.within in
     let v = c.requires.within in
     let size = length-map es (λ e. e.name) in
     let s = length-take n (names es) in
-    let h : i - 1 < n = omega (arith, c.loop-i-test.true) in
-    let at : get_or (take n (names es)) (i - 1) 0 ≡ c.args.name =
-    get_or-take n (names es) (i - 1) 0 h ∙ get_or-map (λ e. e.name) es (i - 1) c.index-entries-i.result 0 (omega arith) ∙ c.if-entries-i.true in
+    let at : get_or (take n (names es)) i 0 ≡ c.args.name =
+    get_or-take n (names es) i 0 h ∙ get_or-map (λ e. e.name) es i c.index-entries-i.result 0 (omega arith) ∙ c.if-entries-i.true in
     record {
-      result = names_is (take n (names es)) c.args.name (Some (i - 1)) (omega arith, at, λ j q. walked_part (names es) n c.args.name i c.loop-i.invariant j (omega arith))
+      result = names_is (take n (names es)) c.args.name (Some i) (omega arith, at, walked_part (names es) n c.args.name (Some i) w)
           ∙ ap (λ xs. newest_of xs c.args.name) (take-map (λ e. e.name) n es);
     }
 
-pub loop-i-smaller : goal.loop-i-smaller
-loop-i-smaller g c =
+pub loop-next-smaller : goal.loop-next-smaller
+loop-next-smaller g c =
     let es = c.args.entries.now in
-    let w = c.loop-i.invariant.within in
+    let P : Option ℕ → Type 0 = Walked (names es) c.args.count c.args.name in
+    let w = subst P c.in-Some.is c.loop-next.invariant in
     let v = c.requires.within in
-    let d = c.index-entries-i-in-loop-i.result in
-    let nx = sym (get_or-map (λ e. e.next) es (c.loop-i.i - 1) d 0 (omega (arith, c.loop-i-test.true))) in
-    next_low (names es) c.args.count c.args.name (nexts es) c.loop-i.i _ c.loop-i-test.true w c.requires.threaded nx
+    let d = c.index-entries-i-in-Some.result in
+    let nx = sym (get_or-map (λ e. e.next) es c.in-Some.i d None (omega (arith, w.within))) in
+    let low = next_low (names es) c.args.count c.args.name (nexts es) c.in-Some.i _ w.within c.requires.threaded nx in
+    let here = ap up_to c.in-Some.is in
+    omega arith
 
-pub loop-i-preserved : goal.loop-i-preserved
-loop-i-preserved g c =
+pub loop-next-preserved : goal.loop-next-preserved
+loop-next-preserved g c =
     let es = c.args.entries.now in
-    let w = c.loop-i.invariant.within in
+    let i = c.in-Some.i in
+    let P : Option ℕ → Type 0 = Walked (names es) c.args.count c.args.name in
+    let w = subst P c.in-Some.is c.loop-next.invariant in
     let v = c.requires.within in
-    let i = c.loop-i.i in
-    let d = c.index-entries-i-in-loop-i.result in
-    let nx = sym (get_or-map (λ e. e.next) es (i - 1) d 0 (omega (arith, c.loop-i-test.true))) in
-    let nm = get_or-map (λ e. e.name) es (i - 1) c.index-entries-i.result 0 (omega (arith, c.loop-i-test.true)) in
-    walked_next (names es) c.args.count c.args.name (nexts es) i _ c.loop-i-test.true c.requires.threaded c.loop-i.invariant (λ e. c.if-entries-i.false (sym nm ∙ e)) nx
+    let nx = sym (get_or-map (λ e. e.next) es i c.index-entries-i-in-Some.result None (omega (arith, w.within))) in
+    let nm = get_or-map (λ e. e.name) es i c.index-entries-i.result 0 (omega (arith, w.within)) in
+    walked_next (names es) c.args.count c.args.name (nexts es) i _ c.requires.threaded w (λ e. c.if-entries-i.false (sym nm ∙ e)) nx
 
 pub returns : goal.returns
 returns g c =
     let es = c.args.entries.now in
     let n = c.args.count in
+    let P : Option ℕ → Type 0 = Walked (names es) n c.args.name in
     record {
-      result = names_is (take n (names es)) c.args.name None (λ j q. walked_part (names es) n c.args.name c.loop-i.i c.loop-i.invariant j (omega (arith, c.loop-i-test.false)))
+      result = names_is (take n (names es)) c.args.name None (walked_part (names es) n c.args.name None (subst P c.in_default.is c.loop-next.invariant))
           ∙ ap (λ xs. newest_of xs c.args.name) (take-map (λ e. e.name) n es);
     }

@@ -10,7 +10,7 @@ returns-in_err-place g c =
     let p = c.args.self.now in
     let e = err_from_is_err_and c.from_residual.result c.from_residual.ensures.1 in
     let d = declare_not (layout p.levels) p.entries.now p.levels.sound c.args.name c.args.value
-    c.here-repeated.result c.capacity-capacity.result c.here-repeated.ensures.result c.capacity-capacity.ensures.result
+    c.here.result c.capacity.result c.here.ensures.result c.capacity.ensures.result
     c.in_err-place.field-0.0 c.in_err-place.ensures.result in
     record { result = e.1 ∙ ap Err e.2 ∙ d.result; leaves = d.leaves }
 
@@ -18,43 +18,35 @@ pub bounds-self-place : goal.bounds-self-place
 bounds-self-place g c =
     let p = c.args.self.now in
     (declare_placed (layout p.levels) p.entries.now p.levels.sound c.args.name c.args.value
-    c.here-repeated.result c.capacity-capacity.result c.here-repeated.ensures.result c.capacity-capacity.ensures.result
+    c.here.result c.capacity.result c.here.ensures.result c.capacity.ensures.result
     c.in_ok-place.place c.in_ok-place.ensures.result).within
 
 pub offset_bounds-self-place : goal.offset_bounds-self-place
 offset_bounds-self-place g c = let h : c.in_ok-place.place < length c.args.self.now.entries.now = bounds-self-place g c in search rules
 
-pub overflow_add-place : goal.overflow_add-place
-overflow_add-place g c =
-    let p = c.args.self.now in
-    let at = declare_placed (layout p.levels) p.entries.now p.levels.sound c.args.name c.args.value
-    c.here-repeated.result c.capacity-capacity.result c.here-repeated.ensures.result c.capacity-capacity.ensures.result
-    c.in_ok-place.place c.in_ok-place.ensures.result in
-    omega (arith, at.within, c.capacity-capacity.type_inv, c.capacity-capacity.ensures.result)
-
 pub grow-requires : goal.grow-requires
 grow-requires g c =
     let p = c.args.self.now in
     let at = declare_placed (layout p.levels) p.entries.now p.levels.sound c.args.name c.args.value
-    c.here-repeated.result c.capacity-capacity.result c.here-repeated.ensures.result c.capacity-capacity.ensures.result
+    c.here.result c.capacity.result c.here.ensures.result c.capacity.ensures.result
     c.in_ok-place.place c.in_ok-place.ensures.result in
-    record { level = at.level; room = omega (arith, at.next, at.within, c.capacity-capacity.type_inv, c.capacity-capacity.ensures.result) }
+    record { level = at.level; room = omega (arith, at.next, at.within, c.capacity.type_inv, c.capacity.ensures.result) }
 
 pub invariant_of-self : goal.invariant_of-self
 invariant_of-self g c =
     let p = c.args.self.now in
     let at = declare_placed (layout p.levels) p.entries.now p.levels.sound c.args.name c.args.value
-    c.here-repeated.result c.capacity-capacity.result c.here-repeated.ensures.result c.capacity-capacity.ensures.result
+    c.here.result c.capacity.result c.here.ensures.result c.capacity.ensures.result
     c.in_ok-place.place c.in_ok-place.ensures.result in
     let l = linked_more p.entries.now p.buckets.heads p.levels.count c.set_head.new.self.heads c.in_ok-place.place c.grow.new.self.count
-    (record { name = c.args.name; value = c.args.value; next = c.head-next.result }) p.buckets.size at.next (omega (arith, at.next, at.within)) (ap (λ y. y.count) c.grow.ensures.leaves)
-    c.head-next.ensures.result c.set_head.ensures.leaves (p.within, (p.threaded, (p.headed, tt))) in
+    (record { name = c.args.name; value = c.args.value; next = c.head.result }) p.buckets.size at.next (omega (arith, at.next, at.within)) (ap (λ y. y.count) c.grow.ensures.leaves)
+    c.head.ensures.result c.set_head.ensures.leaves (p.within, (p.threaded, (p.headed, tt))) in
     record { within = l.0; threaded = l.1.0; headed = l.1.1.0 }
 
 pub returns : goal.returns
 returns g c =
     let p = c.args.self.now in
     let d = declare_made (layout p.levels) p.entries.now p.levels.sound c.args.name c.args.value
-    c.here-repeated.result c.capacity-capacity.result c.here-repeated.ensures.result c.capacity-capacity.ensures.result
-    (layout c.grow.new.self) c.in_ok-place.place c.head-next.result c.grow.ensures.leaves c.in_ok-place.ensures.result in
+    c.here.result c.capacity.result c.here.ensures.result c.capacity.ensures.result
+    (layout c.grow.new.self) c.in_ok-place.place c.head.result c.grow.ensures.leaves c.in_ok-place.ensures.result in
     record { result = d.result; leaves = d.leaves }

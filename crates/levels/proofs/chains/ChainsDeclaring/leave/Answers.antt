@@ -1,4 +1,4 @@
-use Rattle.std.proofs.Common.{sym, ap, ◌∙◌, arith}
+use Rattle.std.proofs.Common.{◌≡◌, Some, sym, ap, ◌∙◌, arith, rules}
 use Rattle.levels.specs.Layout.{layout, top_of}
 use Rattle.levels.proofs.Storing.{count_closed}
 use Rattle.levels.proofs.Chaining.{linked_same}
@@ -7,8 +7,9 @@ use Rattle.levels.proofs.chains.ChainsDeclaring.leave.Goals as goal
 pub invariant_of-self : goal.invariant_of-self
 invariant_of-self g c =
     let p = c.loop-self.self in
+    let t : Some c.in_ok-start.start ≡ c.top.result = search rules in
     let l = linked_same p.entries.now p.buckets.heads p.levels.count c.leave.new.self.count
-    (count_closed (layout p.levels) (layout c.leave.new.self) c.in-Some.start p.levels.sound c.leave.ensures.leaves
-    (c.in-Some.ensures.result ∙ ap top_of (sym c.loop-self.invariant.0)) (omega (arith, c.loop-self-test.false, c.count.ensures.result)))
+    (count_closed (layout p.levels) (layout c.leave.new.self) c.in_ok-start.start p.levels.sound c.leave.ensures.leaves
+    (t ∙ c.top.ensures.result ∙ ap top_of (sym c.loop-self.invariant.0)) (omega (arith, c.loop-self-test.false, c.count.ensures.result)))
     (p.within, (p.threaded, (p.headed, tt))) in
     record { within = l.0; threaded = l.1.0; headed = l.1.1.0 }

@@ -1,4 +1,4 @@
-use Rattle.std.proofs.Common.{◌<◌, length, Err, ap, ◌∙◌, arith, rules}
+use Rattle.std.proofs.Common.{◌<◌, length, None, Err, ap, ◌∙◌, arith, rules}
 use Rattle.std.proofs.lemmas.Result.{err_from_is_err_and}
 use Rattle.levels.specs.Layout.{layout}
 use Rattle.levels.proofs.Declaring.{declare_not, declare_placed, declare_made}
@@ -9,7 +9,7 @@ returns-in_err-place g c =
     let p = c.args.self.now in
     let e = err_from_is_err_and c.from_residual.result c.from_residual.ensures.1 in
     let d = declare_not (layout p.levels) p.entries.now p.levels.sound c.args.name c.args.value
-    c.here-repeated.result c.capacity-capacity.result c.here-repeated.ensures.result c.capacity-capacity.ensures.result
+    c.here.result c.capacity.result c.here.ensures.result c.capacity.ensures.result
     c.in_err-place.field-0.0 c.in_err-place.ensures.result in
     record { result = e.1 ∙ ap Err e.2 ∙ d.result; leaves = d.leaves }
 
@@ -17,7 +17,7 @@ pub bounds-self-place : goal.bounds-self-place
 bounds-self-place g c =
     let p = c.args.self.now in
     (declare_placed (layout p.levels) p.entries.now p.levels.sound c.args.name c.args.value
-    c.here-repeated.result c.capacity-capacity.result c.here-repeated.ensures.result c.capacity-capacity.ensures.result
+    c.here.result c.capacity.result c.here.ensures.result c.capacity.ensures.result
     c.in_ok-place.place c.in_ok-place.ensures.result).within
 
 pub offset_bounds-self-place : goal.offset_bounds-self-place
@@ -27,14 +27,14 @@ pub grow-requires : goal.grow-requires
 grow-requires g c =
     let p = c.args.self.now in
     let at = declare_placed (layout p.levels) p.entries.now p.levels.sound c.args.name c.args.value
-    c.here-repeated.result c.capacity-capacity.result c.here-repeated.ensures.result c.capacity-capacity.ensures.result
+    c.here.result c.capacity.result c.here.ensures.result c.capacity.ensures.result
     c.in_ok-place.place c.in_ok-place.ensures.result in
-    record { level = at.level; room = omega (arith, at.next, at.within, c.capacity-capacity.type_inv, c.capacity-capacity.ensures.result) }
+    record { level = at.level; room = omega (arith, at.next, at.within, c.capacity.type_inv, c.capacity.ensures.result) }
 
 pub returns : goal.returns
 returns g c =
     let p = c.args.self.now in
     let d = declare_made (layout p.levels) p.entries.now p.levels.sound c.args.name c.args.value
-    c.here-repeated.result c.capacity-capacity.result c.here-repeated.ensures.result c.capacity-capacity.ensures.result
-    (layout c.grow.new.self) c.in_ok-place.place 0 c.grow.ensures.leaves c.in_ok-place.ensures.result in
+    c.here.result c.capacity.result c.here.ensures.result c.capacity.ensures.result
+    (layout c.grow.new.self) c.in_ok-place.place None c.grow.ensures.leaves c.in_ok-place.ensures.result in
     record { result = d.result; leaves = d.leaves }

@@ -11,22 +11,13 @@ const CAPACITY: usize = 256;
 pub fn usable<V>(entries: &mut [Entry<V>]) -> &mut [Entry<V>]
     ensures result { result.now ≡ take 256 entries.old }
 {
-    let count = entries.len().min(CAPACITY);
-    &mut entries[0..count]
+    let count = CAPACITY.min(entries.len());
+    &mut entries[..count]
 }
 
 // The value of the entry at a place, if there is one.
 pub fn value_at<V: Copy>(entries: &[Entry<V>], place: Option<usize>) -> Option<V>
     ensures result { result ≡ value_at entries.now place }
 {
-    match place {
-        Some(i) => {
-            if i < entries.len() {
-                Some(entries[i].value)
-            } else {
-                None
-            }
-        }
-        None => None,
-    }
+    Some(entries.get(place?)?.value)
 }
