@@ -1,5 +1,5 @@
 -- Heads packed in a number, and unpacked again. Codes are below 8, and a head has at most 16 parameters.
-use Rattle.std.specs.Prelude.{◌≡◌, ℕ, zero, suc, ◌+◌, ◌*◌, ◌/◌, ◌%◌, Bool, true, cond, ◌&&◌, List, [], ◌∷◌, ◌++◌, reverse, length, Some, None, Option, nat_lt}
+use Rattle.std.specs.Prelude.{◌≡◌, ℕ, zero, suc, ◌+◌, ◌*◌, ◌/◌, ◌%◌, Bool, true, cond, ◌&&◌, List, [], ◌∷◌, ◌++◌, reverse, length, Some, None, Option, slice_get, nat_lt}
 
 -- codes as digits of a number, the first one lowest
 abbrev pub digits : List ℕ → ℕ
@@ -42,9 +42,7 @@ parameters_of h = reverse (digits_of (count_of h) (h / 256))
 
 -- the i-th of a list
 abbrev pub nth : List ℕ → ℕ → Option ℕ
-nth [] i = None
-nth (c ∷ cs) zero = Some c
-nth (c ∷ cs) (suc i) = nth cs i
+nth cs i = slice_get cs i
 
 -- one parameter more, as the last, if the number has room for it: fewer than 16 parameters, and so below 2 to the power of 53
 abbrev pub extended : ℕ → ℕ → ℕ

@@ -7,12 +7,14 @@ use Rattle.levels.specs.Linked.{bucket, Threaded, Headed}
 use Rattle.levels.proofs.Linking.{threaded_more, threaded_less, threaded_none, headed_more, headed_less, headed_none}
 
 -- what chains keep to: as many entries stand as there are at most, and links and heads lead where they should
-abbrev pub Linked : {V : Type 0} → List (Entry V) → List (Option ℕ) → ℕ → Type 0
-Linked es heads n = (n ≤ length es) × (Threaded (names es) (nexts es) n × (Headed (names es) heads n × Unit {0}))
+pub record Linked {V : Type 0} (es : List (Entry V)) (heads : List (Option ℕ)) (n : ℕ) : Type 0 where
+  pub within : n ≤ length es
+  pub threaded : Threaded (names es) (nexts es) n
+  pub headed : Headed (names es) heads n
 
 module _ {V : Type 0} (es : List (Entry V)) (heads : List (Option ℕ)) (n : ℕ) where
   pub linked_none : (heads ≡ replicate 64 None) → n ≡ 0 → Linked es heads n
-  linked_none h z = (omega arith, (threaded_none (names es) (nexts es) n z, (headed_none (names es) heads n h z, tt)))
+  linked_none h z = record { within = omega arith; threaded = threaded_none (names es) (nexts es) n z; headed = headed_none (names es) heads n h z }
 
   pub linked_same : (m : ℕ) → m ≡ n → Linked es heads n → Linked es heads m
   linked_same m e l = let P : ℕ → Type 0 = Linked es heads in subst P (sym e) l
@@ -24,37 +26,31 @@ module _ {V : Type 0} (es : List (Entry V)) (heads : List (Option ℕ)) (n : ℕ
       let P : ℕ → List (Option ℕ) → ℕ → Type 0 = λ p hs m. Linked (set es p x) hs m in
       let w : n < length (names es) = simp length-map low in
       let w2 : n < length (nexts es) = simp length-map low in
-      let t = threaded_more (names es) (nexts es) heads n x.name x.next w w2 l.1.0 (link ∙ l.1.1.0 (bucket x.name) (omega arith)) in
-      let d = headed_more (names es) (nexts es) heads n x.name w size (omega arith) l.1.1.0 in
+      let t = threaded_more (names es) (nexts es) heads n x.name x.next w w2 l.threaded (link ∙ l.headed (bucket x.name) (omega arith)) in
+      let d = headed_more (names es) (nexts es) heads n x.name w size (omega arith) l.headed in
       let s = length-set es n x in
       let N : List ℕ → List (Option ℕ) → ℕ → Type 0 = Threaded in
       let H : List ℕ → List (Option ℕ) → ℕ → Type 0 = Headed in
       subst (λ m. P p heads' m) (sym q)
       (subst (λ hs. P p hs (n + 1)) (sym h)
-      (subst (λ p. P p (set heads (bucket x.name) (Some p)) (n + 1)) (sym e) (
-        omega arith,
-        (
-          subst (λ ys. N ys (nexts (set es n x)) (n + 1)) (sym (map-set (λ e. e.name) es n x))
-              (subst (λ ys. N (set (names es) n x.name) ys (n + 1)) (sym (map-set (λ e. e.next) es n x)) t),
-          (subst (λ ys. H ys (set heads (bucket x.name) (Some n)) (n + 1)) (sym (map-set (λ e. e.name) es n x)) d, tt),
-        ),
-      )))
+      (subst (λ p. P p (set heads (bucket x.name) (Some p)) (n + 1)) (sym e) (record {
+        within = omega arith;
+        threaded = subst (λ ys. N ys (nexts (set es n x)) (n + 1)) (sym (map-set (λ e. e.name) es n x))
+            (subst (λ ys. N (set (names es) n x.name) ys (n + 1)) (sym (map-set (λ e. e.next) es n x)) t);
+        headed = subst (λ ys. H ys (set heads (bucket x.name) (Some n)) (n + 1)) (sym (map-set (λ e. e.name) es n x)) d;
+      })))
 
   -- an entry less: its link is the new head of its bucket
   pub linked_less : (heads' : List (Option ℕ)) (m at : ℕ) (d : Entry V) → length heads ≡ 64 → n ≡ m + 1 → at ≡ m
       → heads' ≡ set heads (bucket (get_or es at d).name) (get_or es at d).next → Linked es heads n → Linked es heads' m
   linked_less heads' m at d size q e h l =
-      let low : n ≤ length es = l.0 in
+      let low : n ≤ length es = l.within in
       let H : List (Option ℕ) → ℕ → Type 0 = Headed (names es) in
       let nm : (get_or es at d).name ≡ get_or (names es) m 0 = ap (λ i. (get_or es i d).name) e ∙ sym (get_or-map (λ e. e.name) es m d 0 (omega arith)) in
-      let nx : (get_or es at d).next ≡ get_or (nexts es) m None = ap (λ i. (get_or es i d).next) e ∙ sym (get_or-map (λ e. e.next) es m d None (omega arith)) in (
-        omega arith,
-        (
-          threaded_less (names es) (nexts es) n m (omega arith) l.1.0,
-          (
-            subst (λ hs. H hs m) (sym h)
-                (headed_less (names es) (nexts es) heads m (get_or es at d).name (get_or es at d).next nm nx size (omega arith) (l.1.0 m (omega arith)) (subst (H heads) q l.1.1.0)),
-            tt,
-          ),
-        ),
-      )
+      let nx : (get_or es at d).next ≡ get_or (nexts es) m None = ap (λ i. (get_or es i d).next) e ∙ sym (get_or-map (λ e. e.next) es m d None (omega arith)) in
+      record {
+        within = omega arith;
+        threaded = threaded_less (names es) (nexts es) n m (omega arith) l.threaded;
+        headed = subst (λ hs. H hs m) (sym h)
+            (headed_less (names es) (nexts es) heads m (get_or es at d).name (get_or es at d).next nm nx size (omega arith) (l.threaded m (omega arith)) (subst (H heads) q l.headed));
+      }

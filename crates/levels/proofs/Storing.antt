@@ -22,11 +22,7 @@ pub store_new : {V : Type 0} (y : Layout) (lent es : List (Entry V)) → y ≡ n
 store_new y lent es e h =
     ap (λ y. store_of y es) e ∙ ap (λ n. record { capacity = n; levels = [] }) (ap length h ∙ length-take 256 lent)
 
--- a level more leaves the entries that stand
-pub count_opened : (y y' : Layout) → y' ≡ opened y → y'.count ≡ y.count
-count_opened y y' e = ap (λ y. y.count) e ∙ unless_through (λ y. y.count) (too_deep y.starts) (record { starts = y.count ∷ y.starts; count = y.count }) y ∙ unless_same (too_deep y.starts) y.count
-
--- nor does a level less, once no entry stands from its start on
+-- a level less leaves the entries that stand, once no entry stands from its start on
 pub count_closed : (y y' : Layout) (s : ℕ) → ordered y.starts y.count ≡ true → y' ≡ closed y → Some s ≡ top_of y.starts → y.count ≤ s → y'.count ≡ y.count
 count_closed y y' s ok e t h = ap (λ y. y.count) e ∙ top y.starts y.count ok t h
   where
@@ -47,21 +43,6 @@ module _ {V : Type 0} (y : Layout) (es : List (Entry V)) where
       ∙ unless_through (λ z. store_of z es) (too_deep y.starts) (record { starts = y.count ∷ y.starts; count = y.count }) y
       ∙ ap (λ ls. unless (too_deep y.starts) (with_levels s ls) s) (cut_opened y.starts y.count (map pair es))
       ∙ ap (λ o. unless o (with_levels s ([] ∷ s.levels)) s) enter_refused_by
-
-module _ {V : Type 0} (es : List (Entry V)) where
-  none_by : (ss : List ℕ) (n : ℕ) → none_to_leave ss ≡ none_to_leave (cut ss n (map pair es))
-  none_by [] n = refl
-  none_by (s ∷ ss) n = refl
-
-  left_from : (ss : List ℕ) (n : ℕ) → store_of (without_top ss n) es ≡ left (store_of (record { starts = ss; count = n }) es)
-  left_from [] n = refl
-  left_from (s ∷ ss) n = refl
-
-  pub leave_refused_by : (y : Layout) → none_to_leave y.starts ≡ leave_refused (store_of y es)
-  leave_refused_by y = none_by y.starts y.count
-
-  pub left_by : (y y' : Layout) → y' ≡ closed y → store_of y' es ≡ left (store_of y es)
-  left_by y y' e = ap (λ z. store_of z es) e ∙ left_from y.starts y.count
 
 -- whether there is room does not depend on entries that do not stand
 room_by : (n l : ℕ) → ltb n l ≡ ltb (min n l) l

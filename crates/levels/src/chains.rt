@@ -60,6 +60,7 @@ impl<'a, V: Copy> Chains<'a, V> {
     }
 }
 
+// What reads as in `Pile` (capacity, look, here, enter) is one call of what both share; an inner struct of the two would only put its name before each call.
 impl<'a, V: Copy> Looking<V> for Chains<'a, V> {
     ghost meaning = { λ p. store_of (layout p.levels) p.entries.now };
 

@@ -43,17 +43,12 @@ impl<V: Copy> Looking<V> for Single<V> {
     }
 
     fn look(&self, name: u16) -> Option<V> {
-        match self.held {
-            Some((n, v)) => if n == name { Some(v) } else { None },
-            None => None,
-        }
+        let (n, value) = self.held?;
+        (n == name).then_some(value)
     }
 
     fn here(&self, name: u16) -> bool {
-        match self.held {
-            Some((n, _)) => self.upper == 0 && n == name,
-            None => false,
-        }
+        self.upper == 0 && self.held.is_some_and(|(n, _)| n == name)
     }
 }
 
@@ -76,32 +71,21 @@ impl<V: Copy> Declaring<V> for Single<V> {
             self.upper -= 1;
             return Ok(());
         }
-        match self.held {
-            Some(_) => {
-                self.upper = self.lower;
-                self.held = None;
-                Ok(())
-            }
-            None => Err(Refusal::NoneToLeave),
-        }
+        self.held.take().ok_or(Refusal::NoneToLeave)?;
+        self.upper = self.lower;
+        Ok(())
     }
 
     fn declare(&mut self, name: u16, value: V) -> Result<(), Refusal> {
-        match self.held {
-            Some((n, _)) => if self.upper == 0 && n == name {
-                Err(Refusal::Repeated)
-            } else {
-                Err(Refusal::Full)
-            },
-            None => {
-                if self.upper == 0 {
-                    return Err(Refusal::NoLevel);
-                }
-                self.lower = self.upper - 1;
-                self.upper = 0;
-                self.held = Some((name, value));
-                Ok(())
-            }
+        if self.here(name) {
+            return Err(Refusal::Repeated);
         }
+        if self.held.is_some() {
+            return Err(Refusal::Full);
+        }
+        self.lower = self.upper.checked_sub(1).ok_or(Refusal::NoLevel)?;
+        self.upper = 0;
+        self.held = Some((name, value));
+        Ok(())
     }
 }

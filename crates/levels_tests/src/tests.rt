@@ -14,15 +14,12 @@ use std::test::Fail;
 const GARBAGE: Entry<u8> = Entry {
     name: 7,
     value: 99,
-    next: 1000,
+    next: Some(1000),
 };
 
 // 0, or the number of the refusal.
 fn number_of(r: Result<(), Refusal>) -> u8 {
-    match r {
-        Ok(()) => 0,
-        Err(e) => u8::from(e),
-    }
+    r.err().map_or(0, u8::from)
 }
 
 // 33 levels and no more; nothing without a level.
@@ -104,20 +101,10 @@ fn agree<A: Declaring<u8>, B: Declaring<u8>>(rt: &impl Abort, a: &mut A, b: &mut
     }
 }
 
-// A pile over any memory has room for so many.
-fn pile_fills(rt: &impl Abort, lent: &mut [Entry<u8>], room: u16) -> Result<(), Fail> {
-    fills(rt, &mut Pile::new(lent), room)
-}
-
-// Chains over any memory have room for so many.
-fn chains_fill(rt: &impl Abort, lent: &mut [Entry<u8>], room: u16) -> Result<(), Fail> {
-    fills(rt, &mut Chains::new(lent), room)
-}
-
-// Both over the same memory.
+// Both stores over the same memory have room for so many.
 fn both_fill(rt: &impl Abort, lent: &mut [Entry<u8>], room: u16) -> Result<(), Fail> {
-    pile_fills(rt, lent, room)?;
-    chains_fill(rt, lent, room)
+    fills(rt, &mut Pile::new(lent), room)?;
+    fills(rt, &mut Chains::new(lent), room)
 }
 
 #[test]
@@ -209,7 +196,7 @@ fn heads_in_stores(rt: HostRuntime) -> Result<(), Fail> {
     let mut piled = [Entry {
         name: 0,
         value: 0u64,
-        next: 9,
+        next: Some(9),
     }; 2];
     let mut chained = piled;
     keeps_heads(&rt, &mut Pile::new(&mut piled), outer, inner)?;

@@ -1,25 +1,31 @@
-use Rattle.std.proofs.Common.{◌≡◌, ◌-◌, ◌/◌, sym, ◌∙◌, arith}
-use Rattle.heads.specs.Heads.{count_of, parameters_of}
-use Rattle.heads.proofs.Unpacking.{length_parameters, nth_out, nth_parameters, nearer_none, nearer_more, nearer_all}
+use Rattle.std.proofs.Common.{◌≡◌, ◌+◌, ◌-◌, ◌*◌, ◌/◌, ◌%◌, ◌^◌, ◌<◌, ◌≤◌, Some, sym, ap, ◌∙◌, arith, rules}
+use Rattle.heads.proofs.Unpacking.{length_parameters, parameter_is, shifted}
 use Rattle.heads.proofs.parameter.Goals as goal
 
-pub returns-then-i-n : goal.returns-then-i-n
-returns-then-i-n c = record { result = nth_out (parameters_of c.args.head) c.args.i (omega (arith, c.count-n.ensures.result, c.if-i-n.true)) }
+pub overflow_cast-later : goal.overflow_cast-later
+overflow_cast-later c =
+    let n = c.count.ensures.result ∙ sym (length_parameters c.args.head) in
+    let k : c.in_ok-later.later ≤ c.count.result = search rules in
+    omega arith
 
-pub loop-later-init : goal.loop-later-init
-loop-later-init c = nearer_none (count_of c.args.head) (c.args.head / 256) (count_of c.args.head - 1 - c.args.i)
+pub overflow_mul-later : goal.overflow_mul-later
+overflow_mul-later c =
+    let n = c.count.ensures.result ∙ sym (length_parameters c.args.head) in
+    let k : c.in_ok-later.later ≤ c.count.result = search rules in
+    omega arith
 
-pub loop-later-preserved : goal.loop-later-preserved
-loop-later-preserved c =
-    let h = c.args.head in
-    let n : c.count-n.result ≡ count_of h = c.count-n.ensures.result ∙ sym (length_parameters h) in
-    nearer_more (count_of h) (h / 256) c.loop-later.digits (count_of h - 1 - c.args.i) c.loop-later._later
-    (omega (arith, n, c.loop-later-test.true)) (omega (arith, n, c.if-i-n.false)) c.loop-later.invariant
+pub overflow_add-later : goal.overflow_add-later
+overflow_add-later c =
+    let n = c.count.ensures.result ∙ sym (length_parameters c.args.head) in
+    let k : c.in_ok-later.later ≤ c.count.result = search rules in
+    omega arith
 
 pub returns : goal.returns
 returns c =
     let h = c.args.head in
-    let n : c.count-n.result ≡ count_of h = c.count-n.ensures.result ∙ sym (length_parameters h) in
-    let near = nearer_all (count_of h) (h / 256) c.loop-later.digits (count_of h - 1 - c.args.i) c.loop-later._later
-    (omega (arith, n, c.loop-later-test.false, c.loop-later.auto._later-end)) (omega (arith, n, c.if-i-n.false)) c.loop-later.invariant in
-    record { result = near ∙ nth_parameters h c.args.i (omega (arith, n, c.if-i-n.false)) }
+    let n = c.count.ensures.result ∙ sym (length_parameters h) in
+    let k = c.in_ok-later.later in
+    let l : c.args.i < c.count.result = search rules in
+    let e : k ≡ c.count.result - c.args.i - 1 = search rules in
+    let u : c.unwrap_or-digits.result ≡ h / 2 ^ (8 + 3 * k) = c.unwrap_or-digits.ensures ∙ shifted h (8 + 3 * k) c.checked_shr.result (omega arith) c.checked_shr.ensures in
+    record { result = ap (λ d. Some (d % 8)) u ∙ parameter_is h c.args.i k (omega arith) (omega arith) }

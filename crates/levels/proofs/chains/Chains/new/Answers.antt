@@ -7,11 +7,7 @@ use Rattle.levels.proofs.chains.Chains.new.Goals as goal
 pub invariant_of-result : goal.invariant_of-result
 invariant_of-result g c =
     let l = linked_none c.usable.result.now c.new-2.result.heads c.new.result.count c.new-2.ensures.result (ap (λ y. y.count) c.new.ensures.result) in
-    record { within = l.0; threaded = l.1.0; headed = l.1.1.0 }
+    record { within = l.within; threaded = l.threaded; headed = l.headed }
 
-pub returns : goal.returns
-returns g c =
-    record {
-      result = store_new (layout c.new.result) c.args.entries.now c.usable.result.now c.new.ensures.result c.usable.ensures.result;
-      bound = c.usable.ensures.result;
-    }
+pub returns-clause-result : goal.returns-clause-result
+returns-clause-result g c = store_new (layout c.new.result) c.args.entries.now c.usable.result.now c.new.ensures.result c.usable.ensures.result

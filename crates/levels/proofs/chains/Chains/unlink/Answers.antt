@@ -8,5 +8,5 @@ invariant_of-self g c =
     let less = ap (λ y. y.count) c.shrink.ensures.leaves in
     let l = linked_less p.entries.now p.buckets.heads p.levels.count c.set_head.new.self.heads c.shrink.new.self.count (c.count.result - 1)
     c.index-self-count.result p.buckets.size less (omega (arith, less, c.count.ensures.result)) c.set_head.ensures.leaves
-    (p.within, (p.threaded, (p.headed, tt))) in
-    record { within = l.0; threaded = l.1.0; headed = l.1.1.0 }
+    (record { within = p.within; threaded = p.threaded; headed = p.headed }) in
+    record { within = l.within; threaded = l.threaded; headed = l.headed }

@@ -1,4 +1,4 @@
-use Rattle.std.proofs.Common.{◌<◌, length, Err, ap, ◌∙◌, arith, rules}
+use Rattle.std.proofs.Common.{Err, ap, ◌∙◌, arith}
 use Rattle.std.proofs.lemmas.Result.{err_from_is_err_and}
 use Rattle.levels.specs.Layout.{layout}
 use Rattle.levels.proofs.Declaring.{declare_not, declare_placed, declare_made}
@@ -14,24 +14,6 @@ returns-in_err-place g c =
     c.in_err-place.field-0.0 c.in_err-place.ensures.result in
     record { result = e.1 ∙ ap Err e.2 ∙ d.result; leaves = d.leaves }
 
-pub bounds-self-place : goal.bounds-self-place
-bounds-self-place g c =
-    let p = c.args.self.now in
-    (declare_placed (layout p.levels) p.entries.now p.levels.sound c.args.name c.args.value
-    c.here.result c.capacity.result c.here.ensures.result c.capacity.ensures.result
-    c.in_ok-place.place c.in_ok-place.ensures.result).within
-
-pub offset_bounds-self-place : goal.offset_bounds-self-place
-offset_bounds-self-place g c = let h : c.in_ok-place.place < length c.args.self.now.entries.now = bounds-self-place g c in search rules
-
-pub grow-requires : goal.grow-requires
-grow-requires g c =
-    let p = c.args.self.now in
-    let at = declare_placed (layout p.levels) p.entries.now p.levels.sound c.args.name c.args.value
-    c.here.result c.capacity.result c.here.ensures.result c.capacity.ensures.result
-    c.in_ok-place.place c.in_ok-place.ensures.result in
-    record { level = at.level; room = omega (arith, at.next, at.within, c.capacity.type_inv, c.capacity.ensures.result) }
-
 pub invariant_of-self : goal.invariant_of-self
 invariant_of-self g c =
     let p = c.args.self.now in
@@ -40,8 +22,8 @@ invariant_of-self g c =
     c.in_ok-place.place c.in_ok-place.ensures.result in
     let l = linked_more p.entries.now p.buckets.heads p.levels.count c.set_head.new.self.heads c.in_ok-place.place c.grow.new.self.count
     (record { name = c.args.name; value = c.args.value; next = c.head.result }) p.buckets.size at.next (omega (arith, at.next, at.within)) (ap (λ y. y.count) c.grow.ensures.leaves)
-    c.head.ensures.result c.set_head.ensures.leaves (p.within, (p.threaded, (p.headed, tt))) in
-    record { within = l.0; threaded = l.1.0; headed = l.1.1.0 }
+    c.head.ensures.result c.set_head.ensures.leaves (record { within = p.within; threaded = p.threaded; headed = p.headed }) in
+    record { within = l.within; threaded = l.threaded; headed = l.headed }
 
 pub returns : goal.returns
 returns g c =

@@ -11,5 +11,5 @@ invariant_of-self g c =
     let l = linked_same p.entries.now p.buckets.heads p.levels.count c.leave.new.self.count
     (count_closed (layout p.levels) (layout c.leave.new.self) c.in_ok-start.start p.levels.sound c.leave.ensures.leaves
     (t ∙ c.top.ensures.result ∙ ap top_of (sym c.loop-self.invariant.0)) (omega (arith, c.loop-self-test.false, c.count.ensures.result)))
-    (p.within, (p.threaded, (p.headed, tt))) in
-    record { within = l.0; threaded = l.1.0; headed = l.1.1.0 }
+    (record { within = p.within; threaded = p.threaded; headed = p.headed }) in
+    record { within = l.within; threaded = l.threaded; headed = l.headed }

@@ -5,4 +5,4 @@ use Rattle.levels.proofs.chains.ChainsDeclaring.wipe.Goals as goal
 pub invariant_of-self : goal.invariant_of-self
 invariant_of-self g c =
     let l = linked_none c.args.self.now.entries.now c.new-self.result.heads c.wipe.new.self.count c.new-self.ensures.result (ap (λ y. y.count) c.wipe.ensures.leaves) in
-    record { within = l.0; threaded = l.1.0; headed = l.1.1.0 }
+    record { within = l.within; threaded = l.threaded; headed = l.headed }

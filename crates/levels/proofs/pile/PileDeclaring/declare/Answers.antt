@@ -1,7 +1,7 @@
-use Rattle.std.proofs.Common.{◌<◌, length, None, Err, ap, ◌∙◌, arith, rules}
+use Rattle.std.proofs.Common.{None, Err, ap, ◌∙◌}
 use Rattle.std.proofs.lemmas.Result.{err_from_is_err_and}
 use Rattle.levels.specs.Layout.{layout}
-use Rattle.levels.proofs.Declaring.{declare_not, declare_placed, declare_made}
+use Rattle.levels.proofs.Declaring.{declare_not, declare_made}
 use Rattle.levels.proofs.pile.PileDeclaring.declare.Goals as goal
 
 pub returns-in_err-place : goal.returns-in_err-place
@@ -12,24 +12,6 @@ returns-in_err-place g c =
     c.here.result c.capacity.result c.here.ensures.result c.capacity.ensures.result
     c.in_err-place.field-0.0 c.in_err-place.ensures.result in
     record { result = e.1 ∙ ap Err e.2 ∙ d.result; leaves = d.leaves }
-
-pub bounds-self-place : goal.bounds-self-place
-bounds-self-place g c =
-    let p = c.args.self.now in
-    (declare_placed (layout p.levels) p.entries.now p.levels.sound c.args.name c.args.value
-    c.here.result c.capacity.result c.here.ensures.result c.capacity.ensures.result
-    c.in_ok-place.place c.in_ok-place.ensures.result).within
-
-pub offset_bounds-self-place : goal.offset_bounds-self-place
-offset_bounds-self-place g c = let h : c.in_ok-place.place < length c.args.self.now.entries.now = bounds-self-place g c in search rules
-
-pub grow-requires : goal.grow-requires
-grow-requires g c =
-    let p = c.args.self.now in
-    let at = declare_placed (layout p.levels) p.entries.now p.levels.sound c.args.name c.args.value
-    c.here.result c.capacity.result c.here.ensures.result c.capacity.ensures.result
-    c.in_ok-place.place c.in_ok-place.ensures.result in
-    record { level = at.level; room = omega (arith, at.next, at.within, c.capacity.type_inv, c.capacity.ensures.result) }
 
 pub returns : goal.returns
 returns g c =
