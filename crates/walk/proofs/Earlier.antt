@@ -8,10 +8,11 @@ use Rattle.levels.specs.Search.{later, newest_of}
 use Rattle.rules.specs.declared.violation.Violation.TheVariants.{Repeated}
 use Rattle.rules.specs.Judge.{among}
 use Rattle.rules.specs.Walk.{alone}
-use Rattle.walk.specs.declared.machine.Pending.{Pending}
+use Rattle.walk.specs.declared.machine.Declaration.{Declaration}
 use Rattle.walk.specs.Judge.{Numbers}
 use Rattle.walk.specs.Step.{kept, state, naming, awaiting, named}
-use Rattle.walk.specs.Machines.{between, names_of, unkept, awaited, pending_of, coming_at, Within}
+use Rattle.walk.specs.Places.{between}
+use Rattle.walk.specs.Machines.{names_of, unkept, awaited, pending_of, coming_at, Within}
 
 -- ===== the search =====
 or_assoc : (a b c : Truth) → (a || (b || c)) ≡ ((a || b) || c)
@@ -83,7 +84,7 @@ module _ (t : ℕ) (f : Frame) (fs : List Frame) (first i : ℕ) (is : get_or fs
         ∙ ap Ok (awaiting_more os (kept u ls f.name t) (left - 1))
 
 -- equal parts make equal states
-pub states : (i : ℕ) (fs : List Frame) {os os' : List ℕ} {l l' : List Numbers} {u u' : List Unfinished} {p p' : Pending} → os ≡ os' → l ≡ l' → u ≡ u' → p ≡ p'
+pub states : (i : ℕ) (fs : List Frame) {os os' : List ℕ} {l l' : List Numbers} {u u' : List Unfinished} {p p' : Option Declaration} → os ≡ os' → l ≡ l' → u ≡ u' → p ≡ p'
     → state os l u (coming_at i u p fs) ≡ state os' l' u' (coming_at i u' p' fs)
 states i fs a b c d = λ j. state (a j) (b j) (c j) (coming_at i (c j) (d j) fs)
 

@@ -16,7 +16,6 @@ pub mod Coding
 pub mod CodingRows
 pub mod Moving
 pub mod Telling
-pub mod Parameters
 pub mod RepeatPlaces
 pub mod HeadCodes
 pub mod Walked

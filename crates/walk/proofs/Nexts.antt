@@ -1,13 +1,12 @@
 -- What is known at a frame of a sheet, and after it.
-use Rattle.std.proofs.Common.{◌≡◌, ℕ, ◌+◌, ◌<◌, ◌≤◌, true, false, List, ◌∷◌, length, Ok, sym, refl, ap, ◌∙◌, subst, arith}
+use Rattle.std.proofs.Common.{◌≡◌, ℕ, ◌+◌, ◌<◌, ◌≤◌, true, false, List, ◌∷◌, length, Ok, sym, refl, ap, ◌∙◌, subst, arith, Option, None, Some}
 use Rattle.std.proofs.lemmas.Bool.{false≢true}
 use Rattle.syntax.specs.declared.frame.Frame.{Frame}
 use Rattle.syntax.specs.declared.stages.Unfinished.{Unfinished}
 use Rattle.syntax.specs.Form.{fine, refused, Verdict, accepted, forms, is_fine, is_sheet, start as form_start}
 use Rattle.syntax.proofs.Exact.{forms_run}
 use Rattle.syntax.proofs.Heads.{two_frames}
-use Rattle.walk.specs.declared.machine.Pending.{Pending}
-use Rattle.walk.specs.declared.machine.Pending.TheVariants.{Nothing, Names}
+use Rattle.walk.specs.declared.machine.Declaration.{Declaration}
 use Rattle.walk.specs.Judge.{Numbers}
 use Rattle.walk.specs.Step.{Names as Coming, idle, naming, State, stepped, turn, start}
 use Rattle.walk.specs.Machines.{Ready, Within, Awaits, coming_at}
@@ -17,11 +16,11 @@ use Rattle.walk.proofs.Agreeing.{Agreeing, Sound}
 use Rattle.walk.proofs.Sound.{goes_by}
 
 -- the step's needs are met, and the sheet goes on soundly after it
-pub record Next (cap i : ℕ) (fs : List Frame) (f : Frame) (s : State) (p : Pending) : Type 0 where
+pub record Next (cap i : ℕ) (fs : List Frame) (f : Frame) (s : State) (p : Option Declaration) : Type 0 where
   pub ready : Ready cap i f s.operands s.levels s.things p
   pub leaves : (hs : List Numbers) (ρ b : ℕ) (s' : State) → stepped hs ρ f s ≡ Ok (turn b s') → Sound (i + 1) fs s'
 
-pub next : (cap i : ℕ) (fs : List Frame) (f : Frame) (s : State) (p : Pending) → 256 ≤ cap → i < 256 → (s.names ≡ idle → p ≡ Nothing)
+pub next : (cap i : ℕ) (fs : List Frame) (f : Frame) (s : State) (p : Option Declaration) → 256 ≤ cap → i < 256 → (s.names ≡ idle → p ≡ None)
     → ((t k : ℕ) (earlier : List ℕ) → 0 < k → s.names ≡ naming t k earlier → Awaits i p) → Sound i (f ∷ fs) s → Next cap i fs f s p
 next cap i fs f s p room l still await h =
     let q = allowed i h.form f fs h.forms_on in
@@ -37,14 +36,14 @@ left_of : Coming → ℕ
 left_of idle = 0
 left_of (naming t k earlier) = k
 
-pub nothing_coming : (i : ℕ) (u : List Unfinished) (p : Pending) (fs : List Frame) → coming_at i u p fs ≡ idle → p ≡ Nothing
-nothing_coming i u Nothing fs h = refl
-nothing_coming i u (Names t k first) fs h = let z : ◌≡◌ {A = ℕ} 0 1 = cc in absurd (omega arith)
+pub nothing_coming : (i : ℕ) (u : List Unfinished) (p : Option Declaration) (fs : List Frame) → coming_at i u p fs ≡ idle → p ≡ None
+nothing_coming i u None fs h = refl
+nothing_coming i u (Some d) fs h = let z : ◌≡◌ {A = ℕ} 0 1 = cc in absurd (omega arith)
 
-pub some_coming : (i : ℕ) (u : List Unfinished) (p : Pending) (fs : List Frame) → Within i p → (t k : ℕ) (earlier : List ℕ) → 0 < k → coming_at i u p fs ≡ naming t k earlier → Awaits i p
+pub some_coming : (i : ℕ) (u : List Unfinished) (p : Option Declaration) (fs : List Frame) → Within i p → (t k : ℕ) (earlier : List ℕ) → 0 < k → coming_at i u p fs ≡ naming t k earlier → Awaits i p
 unfolding left_of
-some_coming i u Nothing fs w t k earlier l h = let e = ap left_of h in absurd (omega arith)
-some_coming i u (Names t' k' first) fs w t k earlier l h = let e = ap left_of h in (w, omega arith)
+some_coming i u None fs w t k earlier l h = let e = ap left_of h in absurd (omega arith)
+some_coming i u (Some d) fs w t k earlier l h = let e = ap left_of h in (w, omega arith)
 
 -- ===== a sheet from its start =====
 fine_accepted : (v : Verdict) → is_fine v ≡ true → v ≡ accepted

@@ -1,5 +1,5 @@
 -- What a frame that the form allows finds and leaves, by the shape of what it does.
-use Rattle.std.proofs.Common.{◌≡◌, ℕ, suc, ◌+◌, ◌-◌, ◌<◌, ◌≤◌, List, ◌∷◌, length, Ok, sym, refl, ap, ◌∙◌, subst, arith}
+use Rattle.std.proofs.Common.{◌≡◌, ℕ, suc, ◌+◌, ◌-◌, ◌<◌, ◌≤◌, List, ◌∷◌, length, Ok, sym, refl, ap, ◌∙◌, subst, arith, Option, None}
 use Rattle.std.proofs.lemmas.List.{length-drop}
 use Rattle.syntax.specs.declared.frame.Frame.{Frame}
 use Rattle.syntax.specs.declared.stages.Stage.{Stage}
@@ -7,8 +7,7 @@ use Rattle.syntax.specs.declared.stages.Stage.TheVariants.{Body}
 use Rattle.syntax.specs.declared.stages.Unfinished.{Unfinished}
 use Rattle.syntax.specs.Form.{State as Form, at, fine, in_body, operand, finish}
 use Rattle.levels.specs.Store.{standing}
-use Rattle.walk.specs.declared.machine.Pending.{Pending}
-use Rattle.walk.specs.declared.machine.Pending.TheVariants.{Nothing}
+use Rattle.walk.specs.declared.machine.Declaration.{Declaration}
 use Rattle.walk.specs.Judge.{Numbers, arity, judge}
 use Rattle.walk.specs.Step.{idle, State, state, stepped, turn}
 use Rattle.walk.specs.Machines.{Ready}
@@ -18,7 +17,7 @@ use Rattle.walk.proofs.Answered.{stepped_typed, typed_is}
 use Rattle.walk.proofs.Agreeing.{Agrees, Agreeing, some_level}
 use Rattle.walk.proofs.Readies as readies
 
-module _ (cap : ℕ) (room : 256 ≤ cap) (i : ℕ) (fs : List Frame) (s : State) (p : Pending) (l : i < 256) (still : s.names ≡ idle → p ≡ Nothing) where
+module _ (cap : ℕ) (room : 256 ≤ cap) (i : ℕ) (fs : List Frame) (s : State) (p : Option Declaration) (l : i < 256) (still : s.names ≡ idle → p ≡ None) where
   -- the needs of the step are met, and what it leaves agrees with the form's next state
   pub record Goes (f : Frame) (φ : Form) : Type 0 where
     pub ready : Ready cap i f s.operands s.levels s.things p

@@ -1,5 +1,5 @@
 -- The form of a sheet gives what the step needs at each frame, whatever its token.
-use Rattle.std.proofs.Common.{◌≡◌, ℕ, suc, ◌+◌, ◌-◌, ◌<◌, ◌≤◌, eqb, List, [], ◌∷◌, length, get_or, take, drop, sym, refl, ap, ◌∙◌, subst, arith}
+use Rattle.std.proofs.Common.{◌≡◌, ℕ, suc, ◌+◌, ◌-◌, ◌<◌, ◌≤◌, eqb, List, [], ◌∷◌, length, get_or, take, drop, sym, refl, ap, ◌∙◌, subst, arith, Option, None}
 use Rattle.std.proofs.lemmas.List.{length-drop}
 use Rattle.syntax.specs.declared.frame.Frame.{Frame}
 use Rattle.syntax.specs.declared.frame.«Type».{«Type» as Ty}
@@ -12,8 +12,7 @@ use Rattle.syntax.specs.Form.{Answer, State as Form, at, fine, in_body, operand,
 use Rattle.syntax.proofs.TokenRows.{role}
 use Rattle.levels.specs.Store.{standing, stands, added}
 use Rattle.rules.specs.declared.violation.Violation.TheVariants.{Repeated, OtherInitial}
-use Rattle.walk.specs.declared.machine.Pending.{Pending}
-use Rattle.walk.specs.declared.machine.Pending.TheVariants.{Nothing}
+use Rattle.walk.specs.declared.machine.Declaration.{Declaration}
 use Rattle.walk.specs.Step.{idle, naming, State, state, kept, named, stated}
 use Rattle.walk.specs.Machines.{Awaits, names_of}
 use Rattle.walk.specs.Params.{repeats}
@@ -26,7 +25,7 @@ use Rattle.walk.proofs.Kinded.{Kinded, literal_kinded, update_kinded, binary_kin
 use Rattle.walk.proofs.Repeating.{repeats_front}
 use Rattle.walk.proofs.Readies as readies
 
-module _ (cap : ℕ) (room : 256 ≤ cap) (i : ℕ) (fs : List Frame) (s : State) (p : Pending) (l : i < 256) (still : s.names ≡ idle → p ≡ Nothing)
+module _ (cap : ℕ) (room : 256 ≤ cap) (i : ℕ) (fs : List Frame) (s : State) (p : Option Declaration) (l : i < 256) (still : s.names ≡ idle → p ≡ None)
     (await : (t k : ℕ) (earlier : List ℕ) → 0 < k → s.names ≡ naming t k earlier → Awaits i p) where
   abbrev Found : Token → Form → Type 0
   Found m φ = Goes cap room i fs s p l still (frame_of m) φ

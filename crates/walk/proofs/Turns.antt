@@ -1,23 +1,24 @@
 -- The loop of the walk, turn by turn.
-use Rattle.std.proofs.Common.{◌≡◌, ℕ, zero, suc, ◌+◌, ◌-◌, ◌<◌, ◌≤◌, List, [], ◌∷◌, ◌++◌, reverse, length, get_or, take, drop, set, replicate, Ok, Err, Result, sym, refl, ap, ◌∙◌, subst, ap₂, add-one, arith}
+use Rattle.std.proofs.Common.{◌≡◌, ℕ, zero, suc, ◌+◌, ◌-◌, ◌<◌, ◌≤◌, List, [], ◌∷◌, ◌++◌, reverse, length, get_or, take, drop, set, replicate, Ok, Err, Result, sym, refl, ap, ◌∙◌, subst, ap₂, add-one, arith, Option}
 use Rattle.std.proofs.lemmas.List.{drop_more, drop-drop, drop_all, length-set, drop-set-lt, drop-replicate, reverse-append, take_more, take-append-drop, get_or_default}
 use Rattle.syntax.specs.declared.frame.Frame.{Frame}
 use Rattle.syntax.specs.Writing.{blank}
 use Rattle.levels.specs.Store.{Store, with_levels}
 use Rattle.rules.specs.declared.violation.Violation.{Violation}
 use Rattle.walk.specs.declared.machine.Machine.{Machine}
-use Rattle.walk.specs.declared.machine.Pending.{Pending}
+use Rattle.walk.specs.declared.machine.Declaration.{Declaration}
 use Rattle.walk.specs.Stacks.{down, types_of, things_of}
 use Rattle.walk.specs.Judge.{Numbers}
 use Rattle.walk.specs.Step.{State, stepped, start, Turn, turn, Outcome, ended, broken, walked}
 use Rattle.walk.specs.Outcomes.{column_of}
-use Rattle.walk.specs.Machines.{Ready, Within, At, state_of}
+use Rattle.walk.specs.Places.{At}
+use Rattle.walk.specs.Machines.{Ready, Within, state_of}
 use Rattle.walk.proofs.Agreeing.{Sound}
 use Rattle.walk.proofs.Nexts.{Next, next, nothing_coming, some_coming}
 use Rattle.walk.proofs.Downs as downs
 
 -- what holds before each turn of the loop
-pub record Held (hs : List Numbers) (ρ : ℕ) (fs : List Frame) (i : ℕ) (col : List ℕ) (s : State) (p : Pending) (cap : ℕ) : Type 0 where
+pub record Held (hs : List Numbers) (ρ : ℕ) (fs : List Frame) (i : ℕ) (col : List ℕ) (s : State) (p : Option Declaration) (cap : ℕ) : Type 0 where
   pub went : walked hs ρ (drop i fs) (down 0 i col) s ≡ walked hs ρ fs [] start
   pub long : length col ≡ 256
   pub rest_blank : drop i col ≡ replicate (256 - i) 0
@@ -49,14 +50,14 @@ module _ (hs : List Numbers) (ρ : ℕ) where
   unfolding walked
   over col s = refl
 
-  module _ (fs : List Frame) (i : ℕ) (col : List ℕ) (s : State) (p : Pending) (cap : ℕ) (f : Frame) (at : At fs i f) (h : Held hs ρ fs i col s p cap) where
+  module _ (fs : List Frame) (i : ℕ) (col : List ℕ) (s : State) (p : Option Declaration) (cap : ℕ) (f : Frame) (at : At fs i f) (h : Held hs ρ fs i col s p cap) where
     rest : drop i fs ≡ f ∷ drop (i + 1) fs
     rest = drop_more fs i f at.within ∙ ap (λ g. g ∷ drop (i + 1) fs) at.is
 
     pub sound_here : Sound i (f ∷ drop (i + 1) fs) s
     sound_here = subst (λ l. Sound i l s) rest h.sound
 
-    pub goes_on : (s' : State) (p' : Pending) (cap' t : ℕ) → length fs ≤ 256 → stepped hs ρ f s ≡ Ok (turn t s') → cap' ≡ cap → Sound (i + 1) (drop (i + 1) fs) s' → Within (i + 1) p'
+    pub goes_on : (s' : State) (p' : Option Declaration) (cap' t : ℕ) → length fs ≤ 256 → stepped hs ρ f s ≡ Ok (turn t s') → cap' ≡ cap → Sound (i + 1) (drop (i + 1) fs) s' → Within (i + 1) p'
         → Held hs ρ fs (i + 1) (set col i t) s' p' cap'
     goes_on s' p' cap' t few e c so w =
         let in_fs = at.within in
@@ -81,7 +82,7 @@ module _ (hs : List Numbers) (ρ : ℕ) where
         sym h.went ∙ ap (λ l. walked hs ρ l (down 0 i col) s) rest ∙ breaks f (drop (i + 1) fs) (down 0 i col) s e k
         ∙ ap (λ n. broken e n s.levels) (downs.length_down 0 col i)
 
-  module _ (fs : List Frame) (i : ℕ) (col : List ℕ) (s : State) (p : Pending) (cap : ℕ) (h : Held hs ρ fs i col s p cap) where
+  module _ (fs : List Frame) (i : ℕ) (col : List ℕ) (s : State) (p : Option Declaration) (cap : ℕ) (h : Held hs ρ fs i col s p cap) where
     pub at_end : length fs ≤ i → walked hs ρ fs [] start ≡ ended (down 0 i col) s.levels
     at_end k = sym h.went ∙ ap (λ l. walked hs ρ l (down 0 i col) s) (drop_all i fs k) ∙ over (down 0 i col) s
 
@@ -92,7 +93,7 @@ module _ (hs : List Numbers) (ρ : ℕ) where
         ∙ ap (λ l. take i col ++ l) (sym h.rest_blank)
         ∙ take-append-drop i col
 
-  pub begin : (fs : List Frame) (col : List ℕ) (s : State) (p : Pending) (cap : ℕ) → s ≡ start → Within 0 p → 256 ≤ cap → col ≡ replicate 256 0 → Sound 0 fs start → Held hs ρ fs 0 col s p cap
+  pub begin : (fs : List Frame) (col : List ℕ) (s : State) (p : Option Declaration) (cap : ℕ) → s ≡ start → Within 0 p → 256 ≤ cap → col ≡ replicate 256 0 → Sound 0 fs start → Held hs ρ fs 0 col s p cap
   begin fs col s p cap e w c b so =
       record {
         went = ap₂ (λ l s. walked hs ρ fs l s) (downs.none 0 col) e;

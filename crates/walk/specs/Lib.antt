@@ -1,6 +1,7 @@
 pub mod Stacks
 pub mod Judge
 pub mod Step
+pub mod Places
 pub mod Machines
 pub mod Params
 pub mod Outcomes

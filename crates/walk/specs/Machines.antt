@@ -1,5 +1,5 @@
 -- The state of the code as the walk has it.
-use Rattle.std.specs.Prelude.{◌≡◌, ℕ, zero, suc, ◌+◌, ◌<◌, ◌≤◌, false, cond, List, [], map, reverse, length, Ok, Err, Result, slice_index_or, slice_range}
+use Rattle.std.specs.Prelude.{◌≡◌, ℕ, zero, suc, ◌+◌, ◌<◌, ◌≤◌, false, cond, List, [], map, reverse, length, Some, None, Ok, Err, Option, Result}
 use Rattle.syntax.specs.declared.frame.Frame.{Frame}
 use Rattle.syntax.specs.declared.stages.Unfinished.{Unfinished}
 use Rattle.syntax.specs.Form.{finish}
@@ -7,8 +7,9 @@ use Rattle.levels.specs.Store.{Store, standing, stands}
 use Rattle.rules.specs.declared.violation.Violation.{Violation}
 use Rattle.rules.specs.Walk.{alone}
 use Rattle.walk.specs.declared.machine.Machine.{Machine}
-use Rattle.walk.specs.declared.machine.Pending.{Pending}
-use Rattle.walk.specs.declared.machine.Pending.TheVariants.{Nothing, Names}
+use Rattle.walk.specs.declared.machine.Declaration.{Declaration}
+use Rattle.walk.specs.declared.place.Place.{Place}
+use Rattle.walk.specs.Places.{between}
 use Rattle.walk.specs.Stacks.{types_of, things_of}
 use Rattle.walk.specs.Judge.{Numbers, arity}
 use Rattle.walk.specs.Step.{Names as Coming, idle, naming, State, state, Turn, turn}
@@ -19,13 +20,9 @@ awaited zero u = finish u
 awaited (suc k) u = u
 
 -- so many names to come, as the code keeps them
-abbrev pub pending_of : ℕ → ℕ → ℕ → Pending
-pending_of t zero first = Nothing
-pending_of t (suc k) first = Names t (suc k) first
-
--- the frames from one place up to another
-abbrev pub between : ℕ → ℕ → List Frame → List Frame
-between a b fs = slice_range fs a b
+abbrev pub pending_of : ℕ → ℕ → ℕ → Option Declaration
+pending_of t zero first = None
+pending_of t (suc k) first = Some (record { t = t; left = suc k; first = first })
 
 -- the names of some frames
 abbrev pub names_of : List Frame → List ℕ
@@ -36,9 +33,9 @@ abbrev pub unkept : List Unfinished → List Frame → List ℕ
 unkept u earlier = cond (alone u) (reverse (names_of earlier)) []
 
 -- the names to come at the place i
-abbrev pub coming_at : ℕ → List Unfinished → Pending → List Frame → Coming
-coming_at i u Nothing fs = idle
-coming_at i u (Names t left first) fs = naming t left (unkept u (between first i fs))
+abbrev pub coming_at : ℕ → List Unfinished → Option Declaration → List Frame → Coming
+coming_at i u None fs = idle
+coming_at i u (Some d) fs = naming d.t d.left (unkept u (between d.first i fs))
 
 -- a level, and room for one more entry
 pub record Room (s : Store ℕ) : Type 0 where
@@ -48,6 +45,13 @@ pub record Room (s : Store ℕ) : Type 0 where
 -- the state of the walk before the frame at the place i
 abbrev pub state_of : Machine → List Frame → ℕ → List Numbers → State
 state_of m fs i ls = state (types_of m.operands) ls (things_of m.things) (coming_at i (things_of m.things) m.pending fs)
+
+-- the state of the walk before the frame at a place, and after it
+abbrev pub before : Place → Machine → Store ℕ → State
+before p m s = state_of m p.frames.now p.i s.levels
+
+abbrev pub after : Place → Machine → Store ℕ → State
+after p m s = state_of m p.frames.now (p.i + 1) s.levels
 
 -- the code answers as the walk does, and a fault leaves the levels as they were
 abbrev pub Does : {A : Type 0} → Result State Violation → List Numbers → State → Result A Violation → Type 0
@@ -59,23 +63,18 @@ abbrev pub Steps : Result Turn Violation → List Numbers → State → Result �
 Steps went before after (Ok t) = went ≡ Ok (turn t after)
 Steps went before after (Err v) = (went ≡ Err v) × (after.levels ≡ before)
 
--- the frame at a place
-pub record At (fs : List Frame) (i : ℕ) (f : Frame) : Type 0 where
-  pub within : i < length fs
-  pub is : slice_index_or fs i f ≡ f
-
 -- a name may come at the place i
-abbrev pub Awaits : ℕ → Pending → Type 0
-Awaits i Nothing = ⊥
-Awaits i (Names t left first) = (first ≤ i) × (0 < left)
+abbrev pub Awaits : ℕ → Option Declaration → Type 0
+Awaits i None = ⊥
+Awaits i (Some d) = (d.first ≤ i) × (0 < d.left)
 
 -- the names of a declaration began no later
-abbrev pub Within : ℕ → Pending → Type 0
-Within i Nothing = Unit {0}
-Within i (Names t left first) = first ≤ i
+abbrev pub Within : ℕ → Option Declaration → Type 0
+Within i None = Unit {0}
+Within i (Some d) = d.first ≤ i
 
 -- what the form of the sheet gives at a frame: no call on a store or a stack is refused
-pub record Ready (cap : ℕ) (i : ℕ) (f : Frame) (os : List ℕ) (ls : List Numbers) (u : List Unfinished) (p : Pending) : Type 0 where
+pub record Ready (cap : ℕ) (i : ℕ) (f : Frame) (os : List ℕ) (ls : List Numbers) (u : List Unfinished) (p : Option Declaration) : Type 0 where
   pub enters : f.kind ≤ 0x01 → length ls < 33
   pub level : 0x01 < f.kind → 0 < length ls
   pub entry : 0x01 < f.kind → standing ls < cap
@@ -88,4 +87,8 @@ pub record Ready (cap : ℕ) (i : ℕ) (f : Frame) (os : List ℕ) (ls : List Nu
   pub closes : 0x16 < f.kind → f.kind ≤ 0x17 → 0 < length u
   pub begins : 0x17 < f.kind → f.kind ≤ 0x1F → (0 < length os) × (length u < 32)
   pub takes : 0x20 ≤ f.kind → (arity f ≤ length os) × (length os < 256 + arity f)
-  pub still : (0x11 < f.kind → f.kind ≤ 0x12 → ⊥) → p ≡ Nothing
+  pub still : (0x11 < f.kind → f.kind ≤ 0x12 → ⊥) → p ≡ None
+
+-- the same of the code's state before the frame at a place
+abbrev pub IsReady : Place → Machine → Store ℕ → Type 0
+IsReady p m s = Ready s.capacity p.i p.frame (types_of m.operands) s.levels (things_of m.things) m.pending

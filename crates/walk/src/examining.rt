@@ -1,10 +1,11 @@
 // The examination of one sheet.
-ghost use Rattle.std.specs.Prelude.{◌≡◌, length};
+ghost use Rattle.std.specs.Prelude.{◌≡◌, length, is_some, IfSome};
+ghost use Rattle.frames.specs.Sheets.{frames_of};
 ghost use Rattle.walk.specs.Outcomes.{outcome};
 ghost use Rattle.walk.specs.Examined.{recorded, examined, Leaves, Decides};
 
-use crate::params::{head_of, param_repeats};
-use crate::running::{blank, run};
+use crate::params::{head_of, repeated_parameter};
+use crate::running::run;
 use crate::verdict::{Refusal, Verdict};
 use frames::{Formed, form};
 use levels::store::{Declaring, Looking};
@@ -16,15 +17,17 @@ const PLACES: usize = 256;
 // So many variables may stand at once.
 const ROOM: usize = 256;
 
-// Whether the frames form a sheet with this name and head, and no parameter twice.
-fn as_recorded(frames: &[Frame], name: u16, head: u64) -> bool
-    ensures { result ≡ recorded frames.now name head }
+// The sheet that the frames form, if it has this name and head, and no parameter twice.
+fn as_recorded(frames: &[Frame], name: u16, head: u64) -> Option<Formed>
+    ensures test { is_some result ≡ recorded frames.now name head }
+    ensures sheet { IfSome result (λ s. frames_of s ≡ frames.now) }
 {
     let mut sheet = Formed::new();
-    if form(frames, &mut sheet).is_err() {
-        return false;
-    }
-    sheet.name() == name && head_of(&sheet) == head && !param_repeats(frames)
+    form(frames, &mut sheet).ok()?;
+    let told = sheet.name() == name
+        && head_of(&sheet) == head
+        && repeated_parameter(&sheet).is_none();
+    told.then_some(sheet)
 }
 
 // Walks a sheet that its record gives this name and head: its types into the column, or the first violation, or that the frames were altered.
@@ -46,9 +49,9 @@ pub fn examine<H: Looking<u64>, S: Declaring<u8>>(
     if variables.capacity() < ROOM {
         return Err(Refusal::SmallStore);
     }
-    blank(column);
-    if !as_recorded(frames, name, head) {
+    column.fill(0);
+    let Some(sheet) = as_recorded(frames, name, head) else {
         return Ok(Verdict::Altered);
-    }
-    Ok(run(frames, column, heads, variables))
+    };
+    Ok(run(&sheet, column, heads, variables))
 }

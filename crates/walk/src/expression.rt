@@ -1,21 +1,16 @@
 // The judgement of expressions: it looks names up, and declares none.
-ghost use Rattle.std.specs.Prelude.{◌≡◌, ℕ, ◌<◌, ◌≤◌, length};
+ghost use Rattle.std.specs.Prelude.{◌≡◌, ◌≤◌, length};
+ghost use Rattle.levels.specs.Store.{looked};
+ghost use Rattle.rules.specs.declared.violation.Violation.TheVariants.{Undeclared};
+ghost use Rattle.rules.specs.Faults.{need};
 ghost use Rattle.walk.specs.Stacks.{types_of};
 ghost use Rattle.walk.specs.Judge.{arity, operated, called, judge};
 
+use crate::codes::{BOOL, DOUBLE, INT, STRING};
 use crate::operands::Operands;
 use levels::store::Looking;
 use rules::Violation;
 use syntax::Frame;
-
-// The codes of the types that operands can be asked for.
-const BOOL: u8 = 1;
-
-const INT: u8 = 2;
-
-const DOUBLE: u8 = 3;
-
-const STRING: u8 = 4;
 
 // How many operands an expression's last frame takes.
 pub(crate) fn parts(frame: Frame) -> usize
@@ -31,7 +26,8 @@ pub(crate) fn parts(frame: Frame) -> usize
 
 // The type that an operator gives at operands of the types a and b.
 fn operator(kind: u8, a: u8, b: u8) -> Result<u8, Violation>
-    requires { (0x30 ≤ kind) × (kind ≤ 0x3B) }
+    requires first { 0x30 ≤ kind }
+    requires last { kind ≤ 0x3B }
     ensures { result ≡ operated kind a b }
 {
     match kind {
@@ -49,16 +45,21 @@ fn call(head: Option<u64>, count: u32, operands: &Operands) -> Result<u8, Violat
     requires { count ≤ length (types_of operands.now) }
     ensures { result ≡ called head count (types_of operands.now) }
 {
-    let Some(packed) = head else {
-        return Err(Violation::NoFunction);
-    };
-    if count as usize != heads::count(packed) {
+    let head = head.ok_or(Violation::NoFunction)?;
+    if count as usize != heads::count(head) {
         return Err(Violation::OtherCount);
     }
-    if !operands.fit(packed) {
+    if !operands.fit(head) {
         return Err(Violation::OtherArgument);
     }
-    Ok(heads::returns(packed))
+    Ok(heads::returns(head))
+}
+
+// The type of a variable.
+fn variable<S: Looking<u8>>(name: u16, variables: &S) -> Result<u8, Violation>
+    ensures { result ≡ need Undeclared (looked (S.Looking.meaning variables.now).levels name) }
+{
+    variables.look(name).ok_or(Violation::Undeclared)
 }
 
 // The type of the expression that ends at the frame.
@@ -68,7 +69,8 @@ pub(crate) fn type_of<H: Looking<u64>, S: Looking<u8>>(
     heads: &H,
     variables: &S,
 ) -> Result<u8, Violation>
-    requires { (0x20 ≤ frame.kind) × (arity frame ≤ length (types_of operands.now)) }
+    requires kind { 0x20 ≤ frame.kind }
+    requires ready { arity frame ≤ length (types_of operands.now) }
     ensures { result ≡ judge (H.Looking.meaning heads.now).levels (S.Looking.meaning variables.now).levels frame (types_of operands.now) }
 {
     match frame.kind {
@@ -76,21 +78,16 @@ pub(crate) fn type_of<H: Looking<u64>, S: Looking<u8>>(
         0x22 => Ok(INT),
         0x23 => Ok(DOUBLE),
         0x24 => Ok(STRING),
-        0x25 => match variables.look(frame.name) {
-            Some(t) => Ok(t),
-            None => Err(Violation::Undeclared),
-        },
+        0x25 => variable(frame.name, variables),
         0x26 => call(heads.look(frame.name), frame.load, operands),
-        0x27..=0x2F => match variables.look(frame.name) {
-            Some(t) if t == INT || t == DOUBLE => Ok(t),
-            Some(_) => Err(Violation::OtherOperands),
-            None => Err(Violation::Undeclared),
+        0x27..=0x2F => match variable(frame.name, variables)? {
+            t if t == INT || t == DOUBLE => Ok(t),
+            _ => Err(Violation::OtherOperands),
         },
         0x30..=0x3B => operator(frame.kind, operands.at(1), operands.at(0)),
-        _ => match variables.look(frame.name) {
-            Some(t) if t == operands.at(0) => Ok(t),
-            Some(_) => Err(Violation::OtherAssigned),
-            None => Err(Violation::Undeclared),
+        _ => match variable(frame.name, variables)? {
+            t if t == operands.at(0) => Ok(t),
+            _ => Err(Violation::OtherAssigned),
         },
     }
 }

@@ -2,19 +2,19 @@
 
 #![tactic(auto)]
 
+mod codes;
 pub mod examining;
 mod expression;
 mod machine;
 mod operands;
 pub mod params;
+mod place;
 mod running;
 pub mod theorems;
 mod things;
-mod twice;
 mod variables;
 pub mod verdict;
 
 pub use examining::examine;
-pub use params::head_of;
-pub use twice::repeated_parameter;
+pub use params::{head_of, repeated_parameter};
 pub use verdict::{Refusal, Verdict};

@@ -4,17 +4,18 @@ use crate::things::Things;
 
 // The names of a declaration that are to come: the code of their type, how many, and where the first stands.
 #[derive(Clone, Copy)]
-pub enum Pending {
-    Nothing,
-    Names(u8, u32, usize),
+pub struct Declaration {
+    t: u8,
+    left: u32,
+    first: usize,
 }
 
-// What is ready, what is unfinished, and what is to come.
+// What is ready, what is unfinished, and what is to come. Heads and levels are lent to each call, since a `&mut` store in a struct would lose the value that its lender gets back.
 #[derive(Drop)]
 pub struct Machine {
     operands: Operands,
     things: Things,
-    pending: Pending,
+    pending: Option<Declaration>,
 }
 
 pub mod naming;

@@ -1,10 +1,9 @@
 // The parameters of a sheet: its head packed in a number, and the search for a name that stands twice.
-ghost use Rattle.std.specs.Prelude.{◌≡◌, true};
-ghost use Rattle.syntax.specs.Form.{is_sheet};
+ghost use Rattle.std.specs.Prelude.{◌≡◌};
 ghost use Rattle.syntax.specs.Law.{OfTree};
 ghost use Rattle.frames.specs.Sheets.{frames_of};
 ghost use Rattle.rules.specs.Programs.{head_of as definition_head};
-ghost use Rattle.walk.specs.Params.{param_twice};
+ghost use Rattle.walk.specs.Params.{param_frames, repeated_param, Placed};
 ghost use Rattle.walk.specs.Tied.{packed_head};
 ghost use Rattle.walk.specs.Examined.{sheet_packed};
 
@@ -13,17 +12,12 @@ use heads::{bare, push};
 use levels::search::newest;
 use syntax::Frame;
 
-// The head of the sheet in a number.
-fn packed(frames: &[Frame]) -> u64
-    requires { is_sheet frames.now ≡ true }
-    ensures { result ≡ sheet_packed frames.now }
+// The PARAM frames of a formed sheet.
+fn parameters(sheet: &Formed) -> &[Frame]
+    ensures { result.now ≡ param_frames (frames_of sheet.now) }
 {
-    let count = frames[0].load as usize;
-    let mut head = bare(frames[0].t).unwrap();
-    for i in 0..count {
-        head = push(head, frames[i + 1].t).unwrap();
-    }
-    head
+    let last = sheet.param_count();
+    &sheet.frames()[1..=last]
 }
 
 // The head of a formed sheet in a number.
@@ -31,19 +25,23 @@ pub fn head_of(sheet: &Formed) -> u64
     ensures result { result ≡ sheet_packed (frames_of sheet.now) }
     ensures tree { OfTree (frames_of sheet.now) (λ d. packed_head (definition_head d)) result }
 {
-    packed(sheet.frames())
+    let mut head = bare(sheet.frames()[0].t).unwrap();
+    for parameter in parameters(sheet) {
+        head = push(head, parameter.t).unwrap();
+    }
+    head
 }
 
-// Whether the sheet has a parameter twice.
-pub(crate) fn param_repeats(frames: &[Frame]) -> bool
-    requires { is_sheet frames.now ≡ true }
-    ensures { result ≡ param_twice frames.now }
+// The place of the first parameter of a formed sheet whose name an earlier one has.
+pub fn repeated_parameter(sheet: &Formed) -> Option<usize>
+    ensures result { result ≡ repeated_param (frames_of sheet.now) }
+    ensures bound { Placed (frames_of sheet.now) result }
 {
-    let count = frames[0].load as usize;
-    for i in 0..count {
-        if newest(&frames[1..i + 1], frames[i + 1].name).is_some() {
-            return true;
+    let parameters = parameters(sheet);
+    for (i, parameter) in parameters.iter().enumerate() {
+        if newest(&parameters[..i], parameter.name).is_some() {
+            return Some(i + 1);
         }
     }
-    false
+    None
 }

@@ -1,6 +1,7 @@
 // Calls on the store of variables that it never refuses in a walk.
-ghost use Rattle.std.specs.Prelude.{◌≡◌, ℕ, ◌<◌, false, [], ◌∷◌, length};
-ghost use Rattle.levels.specs.Store.{added, below, standing, stands, with_levels};
+ghost use Rattle.std.specs.Prelude.{◌≡◌, ◌<◌, false, [], ◌∷◌, length};
+ghost use Rattle.levels.specs.Store.{added, below, stands, with_levels};
+ghost use Rattle.walk.specs.Machines.{Room};
 
 use levels::store::Declaring;
 
@@ -22,7 +23,8 @@ pub(crate) fn leave<S: Declaring<u8>>(variables: &mut S)
 
 // A name more on the top level.
 pub(crate) fn add<S: Declaring<u8>>(variables: &mut S, name: u16, t: u8)
-    requires { (0 < length (S.Looking.meaning variables.old).levels) × ((stands (S.Looking.meaning variables.old).levels name ≡ false) × (standing (S.Looking.meaning variables.old).levels < (S.Looking.meaning variables.old).capacity)) }
+    requires room { Room (S.Looking.meaning variables.old) }
+    requires fresh { stands (S.Looking.meaning variables.old).levels name ≡ false }
     ensures { S.Looking.meaning variables.new ≡ with_levels (S.Looking.meaning variables.old) (added (S.Looking.meaning variables.old).levels (name, t)) }
 {
     variables.declare(name, t).unwrap();

@@ -1,13 +1,14 @@
 // What a walk does with a name that is declared.
-ghost use Rattle.std.specs.Prelude.{◌≡◌, ℕ, ◌+◌, ◌<◌, false, ◌||◌, length};
+ghost use Rattle.std.specs.Prelude.{◌≡◌, ◌+◌, ◌<◌, false, ◌||◌, length};
 ghost use Rattle.levels.specs.Store.{stands, with_levels};
 ghost use Rattle.rules.specs.Judge.{among};
 ghost use Rattle.rules.specs.Walk.{alone};
 ghost use Rattle.walk.specs.Stacks.{types_of, things_of};
 ghost use Rattle.walk.specs.Step.{kept, named, initial, state, idle};
-ghost use Rattle.walk.specs.Machines.{awaited, pending_of, state_of, coming_at, unkept, Does, Room, At, Awaits, Within};
+ghost use Rattle.walk.specs.Machines.{awaited, pending_of, coming_at, after, unkept, Does, Room, Awaits, Within};
 
-use super::{Machine, Pending};
+use super::{Declaration, Machine};
+use crate::place::Place;
 use crate::variables;
 use levels::search::{Named, newest};
 use levels::store::{Declaring, Looking};
@@ -15,17 +16,17 @@ use rules::Violation;
 use syntax::Frame;
 
 impl Machine {
-    // So many names are to come, the first of them at a place.
-    pub(crate) fn await_names(&mut self, t: u8, left: u32, first: usize)
+    // So many names are to come of a declaration.
+    pub(crate) fn await_names(&mut self, declaration: Declaration)
         ensures operands { types_of self.new.operands ≡ types_of self.old.operands }
-        ensures things { things_of self.new.things ≡ awaited left (things_of self.old.things) }
-        ensures pending { self.new.pending ≡ pending_of t left first }
+        ensures things { things_of self.new.things ≡ awaited declaration.left (things_of self.old.things) }
+        ensures pending { self.new.pending ≡ pending_of declaration.t declaration.left declaration.first }
     {
-        if left == 0 {
-            self.pending = Pending::Nothing;
+        if declaration.left == 0 {
+            self.pending = None;
             self.things.finish();
         } else {
-            self.pending = Pending::Names(t, left, first);
+            self.pending = Some(declaration);
         }
     }
 
@@ -38,7 +39,8 @@ impl Machine {
 
     // Declares a name, unless the statement stands alone.
     fn keep<S: Declaring<u8>>(&self, name: u16, t: u8, variables: &mut S)
-        requires { (Room (S.Looking.meaning variables.old)) × ((alone (things_of self.now.things) ≡ false → stands (S.Looking.meaning variables.old).levels name ≡ false)) }
+        requires room { Room (S.Looking.meaning variables.old) }
+        requires fresh { alone (things_of self.now.things) ≡ false → stands (S.Looking.meaning variables.old).levels name ≡ false }
         ensures { S.Looking.meaning variables.new ≡ with_levels (S.Looking.meaning variables.old) (kept (things_of self.now.things) (S.Looking.meaning variables.old).levels name t) }
     {
         if !self.things.alone() {
@@ -49,26 +51,27 @@ impl Machine {
     // Takes one name more of a declaration.
     pub(crate) fn name<S: Declaring<u8>>(
         &mut self,
-        frame: Frame,
-        frames: &[Frame],
-        i: usize,
+        place: &Place<'_>,
         variables: &mut S,
     ) -> Result<(), Violation>
-        requires at { At frames.now i frame }
-        requires awaits { Awaits i self.old.pending }
+        requires awaits { Awaits place.now.i self.old.pending }
         requires room { Room (S.Looking.meaning variables.old) }
-        ensures does { Does (named (types_of self.old.operands) (S.Looking.meaning variables.old).levels (things_of self.old.things) frame.name (coming_at i (things_of self.old.things) self.old.pending frames.now)) (S.Looking.meaning variables.old).levels (state_of self.new frames.now (i + 1) (S.Looking.meaning variables.new).levels) result }
+        ensures does { Does (named (types_of self.old.operands) (S.Looking.meaning variables.old).levels (things_of self.old.things) place.now.frame.name (coming_at place.now.i (things_of self.old.things) self.old.pending place.now.frames.now)) (S.Looking.meaning variables.old).levels (after place.now self.new (S.Looking.meaning variables.new)) result }
         ensures capacity { (S.Looking.meaning variables.new).capacity ≡ (S.Looking.meaning variables.old).capacity }
-        ensures within { Within (i + 1) self.new.pending }
+        ensures within { Within (place.now.i + 1) self.new.pending }
     {
-        let Pending::Names(t, left, first) = self.pending else {
+        let Some(declaration) = self.pending else {
             unreachable();
         };
-        if self.repeated(frame.name, &frames[first..i], variables) {
+        let name = place.frame.name;
+        if self.repeated(name, place.since(declaration.first), variables) {
             return Err(Violation::Repeated);
         }
-        self.keep(frame.name, t, variables);
-        self.await_names(t, left - 1, first);
+        self.keep(name, declaration.t, variables);
+        self.await_names(Declaration {
+            left: declaration.left - 1,
+            ..declaration
+        });
         Ok(())
     }
 
@@ -78,7 +81,8 @@ impl Machine {
         frame: Frame,
         variables: &mut S,
     ) -> Result<(), Violation>
-        requires { (0 < length (types_of self.old.operands)) × (Room (S.Looking.meaning variables.old)) }
+        requires value { 0 < length (types_of self.old.operands) }
+        requires room { Room (S.Looking.meaning variables.old) }
         ensures does { Does (initial (types_of self.old.operands) (S.Looking.meaning variables.old).levels (things_of self.old.things) frame) (S.Looking.meaning variables.old).levels (state (types_of self.new.operands) (S.Looking.meaning variables.new).levels (things_of self.new.things) idle) result }
         ensures pending { self.new.pending ≡ self.old.pending }
         ensures capacity { (S.Looking.meaning variables.new).capacity ≡ (S.Looking.meaning variables.old).capacity }

@@ -1,83 +1,69 @@
 // What a walk does with a frame.
-ghost use Rattle.std.specs.Prelude.{◌≡◌, ℕ, ◌+◌, ◌<◌, []};
-ghost use Rattle.walk.specs.declared.machine.Pending.TheVariants.{Nothing};
+ghost use Rattle.std.specs.Prelude.{◌≡◌, ◌+◌, ◌<◌, [], None};
+ghost use Rattle.syntax.specs.Heads.{head};
 ghost use Rattle.walk.specs.Stacks.{types_of, things_of};
 ghost use Rattle.walk.specs.Step.{stated, governed, stepped};
-ghost use Rattle.walk.specs.Machines.{state_of, Does, At, Ready, Within, Steps};
+ghost use Rattle.walk.specs.Machines.{before, after, Does, Within, Steps, IsReady};
 
-use super::{Machine, Pending};
+use super::{Declaration, Machine};
+use crate::codes::{BOOL, VOID};
 use crate::expression::{parts, type_of};
 use crate::operands::Operands;
+use crate::place::Place;
 use crate::things::Things;
 use crate::variables;
 use levels::store::{Declaring, Looking};
 use rules::Violation;
-use syntax::{Frame, Unfinished};
-
-// The codes of the types that a statement can ask for.
-const BOOL: u8 = 1;
-
-const VOID: u8 = 5;
+use syntax::Unfinished;
 
 impl Machine {
     // Before the first frame.
     pub(crate) fn new() -> Self
-        ensures { (types_of result.operands ≡ []) × (things_of result.things ≡ []) × (result.pending ≡ Nothing) }
+        ensures operands { types_of result.operands ≡ [] }
+        ensures things { things_of result.things ≡ [] }
+        ensures pending { result.pending ≡ None }
     {
         Machine {
             operands: Operands::new(),
             things: Things::new(),
-            pending: Pending::Nothing,
+            pending: None,
         }
     }
 
     // Takes one frame: the number for the column, or the rule that is broken.
     pub(crate) fn step<H: Looking<u64>, S: Declaring<u8>>(
         &mut self,
-        frame: Frame,
-        frames: &[Frame],
-        i: usize,
-        returns: u8,
+        place: &Place<'_>,
         heads: &H,
         variables: &mut S,
     ) -> Result<u8, Violation>
-        requires at { At frames.now i frame }
-        requires ready { Ready (S.Looking.meaning variables.old).capacity i frame (types_of self.old.operands) (S.Looking.meaning variables.old).levels (things_of self.old.things) self.old.pending }
-        ensures does { Steps (stepped (H.Looking.meaning heads.now).levels returns frame (state_of self.old frames.now i (S.Looking.meaning variables.old).levels)) (S.Looking.meaning variables.old).levels (state_of self.new frames.now (i + 1) (S.Looking.meaning variables.new).levels) result }
+        requires ready { IsReady place.now self.old (S.Looking.meaning variables.old) }
+        ensures does { Steps (stepped (H.Looking.meaning heads.now).levels (head place.now.frames.now).t place.now.frame (before place.now self.old (S.Looking.meaning variables.old))) (S.Looking.meaning variables.old).levels (after place.now self.new (S.Looking.meaning variables.new)) result }
         ensures capacity { (S.Looking.meaning variables.new).capacity ≡ (S.Looking.meaning variables.old).capacity }
-        ensures within { Within (i + 1) self.new.pending }
+        ensures within { Within (place.now.i + 1) self.new.pending }
     {
-        if frame.kind < 0x20 {
-            return match self.statement(frame, frames, i, returns, variables) {
-                Ok(()) => Ok(0),
-                Err(violation) => Err(violation),
-            };
+        if place.frame.kind < 0x20 {
+            self.statement(place, variables)?;
+            return Ok(0);
         }
-        match type_of(frame, &self.operands, heads, variables) {
-            Ok(t) => {
-                self.operands.settle(parts(frame), t);
-                Ok(t)
-            }
-            Err(violation) => Err(violation),
-        }
+        let t = type_of(place.frame, &self.operands, heads, variables)?;
+        self.operands.settle(parts(place.frame), t);
+        Ok(t)
     }
 
     // Takes a frame that is no expression.
     fn statement<S: Declaring<u8>>(
         &mut self,
-        frame: Frame,
-        frames: &[Frame],
-        i: usize,
-        returns: u8,
+        place: &Place<'_>,
         variables: &mut S,
     ) -> Result<(), Violation>
-        requires at { At frames.now i frame }
-        requires kind { frame.kind < 0x20 }
-        requires ready { Ready (S.Looking.meaning variables.old).capacity i frame (types_of self.old.operands) (S.Looking.meaning variables.old).levels (things_of self.old.things) self.old.pending }
-        ensures does { Does (stated returns frame (state_of self.old frames.now i (S.Looking.meaning variables.old).levels)) (S.Looking.meaning variables.old).levels (state_of self.new frames.now (i + 1) (S.Looking.meaning variables.new).levels) result }
+        requires kind { place.now.frame.kind < 0x20 }
+        requires ready { IsReady place.now self.old (S.Looking.meaning variables.old) }
+        ensures does { Does (stated (head place.now.frames.now).t place.now.frame (before place.now self.old (S.Looking.meaning variables.old))) (S.Looking.meaning variables.old).levels (after place.now self.new (S.Looking.meaning variables.new)) result }
         ensures capacity { (S.Looking.meaning variables.new).capacity ≡ (S.Looking.meaning variables.old).capacity }
-        ensures within { Within (i + 1) self.new.pending }
+        ensures within { Within (place.now.i + 1) self.new.pending }
     {
+        let frame = place.frame;
         match frame.kind {
             0..=0x01 => variables::enter(variables),
             0x02 => variables::add(variables, frame.name, frame.t),
@@ -86,11 +72,15 @@ impl Machine {
                 self.operands.pop();
                 self.things.finish();
             }
-            0x11 => self.await_names(frame.t, frame.load, i + 1),
-            0x12 => return self.name(frame, frames, i, variables),
+            0x11 => self.await_names(Declaration {
+                t: frame.t,
+                left: frame.load,
+                first: place.i + 1,
+            }),
+            0x12 => return self.name(place, variables),
             0x13 => return self.init(frame, variables),
-            0x14 if returns == VOID => self.things.finish(),
-            0x15 if returns == self.operands.at(0) => {
+            0x14 if place.returns() == VOID => self.things.finish(),
+            0x15 if place.returns() == self.operands.at(0) => {
                 self.operands.pop();
                 self.things.finish();
             }

@@ -1,35 +1,22 @@
-use Rattle.std.proofs.Common.{◌-◌, get_or, sym, ap, ◌∙◌, arith}
+use Rattle.std.proofs.Common.{◌≡◌, ◌-◌, ◌≤◌, length, drop, take, ap, ◌∙◌, rules, arith, tests}
+use Rattle.std.specs.Slice.Iter.{iter_rest}
+use Rattle.std.proofs.lemmas.List.{length-reverse, take_rest}
+use Rattle.std.proofs.lemmas.Iterator.{YieldsList-from_slice}
+use Rattle.std.proofs.lemmas.Iterator.Consumers.{YieldsList-from_enumerate}
+use Rattle.std.proofs.lemmas.Iterator.Search.{all_from_yields_List}
 use Rattle.heads.specs.Heads.{parameters_of}
-use Rattle.walk.specs.Stacks.{types_of}
-use Rattle.walk.proofs.Fits as fits
+use Rattle.walk.proofs.Fits.{is_nth, fits_last}
 use Rattle.walk.proofs.operands.Operands.fit.Goals as goal
-
-pub returns-then-t-at : goal.returns-then-t-at
-returns-then-t-at c =
-    let cs = parameters_of c.args.head in
-    let os = types_of c.args.self.now in
-    let n = c.count-n.ensures.result in
-    fits.left_stops cs os c.requires c.loop-i.i (omega (arith, n, c.loop-i-test.true))
-    (λ e. c.if-t-at.true (fits.is_nth cs c.loop-i.i c.in-Some.t c.in-Some.ensures.result ∙ e
-    ∙ sym (c.at.ensures ∙ ap (λ n. get_or os (n - 1 - c.loop-i.i) 5) n)))
-    c.loop-i.invariant
-
-pub returns-in-None : goal.returns-in-None
-returns-in-None c =
-    let cs = parameters_of c.args.head in
-    fits.nth_none cs c.loop-i.i (omega (arith, c.count-n.ensures.result, c.loop-i-test.true)) c.in-None.ensures.result
-
-pub loop-i-preserved : goal.loop-i-preserved
-loop-i-preserved c =
-    let cs = parameters_of c.args.head in
-    let os = types_of c.args.self.now in
-    let n = c.count-n.ensures.result in
-    fits.left_more cs os c.requires c.loop-i.i (omega (arith, n, c.loop-i-test.true))
-    (sym (fits.is_nth cs c.loop-i.i c.in-Some.t c.in-Some.ensures.result) ∙ c.if-t-at.false
-    ∙ c.at.ensures ∙ ap (λ n. get_or os (n - 1 - c.loop-i.i) 5) n)
-    c.loop-i.invariant
 
 pub returns : goal.returns
 returns c =
-    fits.left_none (parameters_of c.args.head) (types_of c.args.self.now) c.requires c.loop-i.i
-    (omega (arith, c.count-n.ensures.result, c.loop-i-test.false)) c.loop-i.invariant
+    let cs = parameters_of c.args.head in
+    let os = c.args.self.now.types.items in
+    let r = length-reverse os in
+    let l : length cs ≤ length os = omega arith in
+    let k = c.len.result - c.count.result in
+    let n : k ≡ length os - length cs = omega arith in
+    let rest : iter_rest c.iter.result ≡ drop (length os - length cs) os =
+    c.iter.ensures.rest ∙ ap (λ l. take (length l - k) (drop k l)) c.deref.ensures.0 ∙ take_rest os k ∙ ap (λ n. drop n os) n in
+    all_from_yields_List (is_nth cs) _ _ c.all.result c.all.ensures.ran (YieldsList-from_enumerate (YieldsList-from_slice _ (ap iter_rest c.enumerate.ensures.source ∙ rest)) c.enumerate.ensures.count) (λ x b q k. search (rules, tests))
+    ∙ fits_last os cs l
