@@ -1,8 +1,6 @@
 -- What an examination that comes to a walk answers and leaves.
-use Rattle.std.proofs.Common.{◌≡◌, ℕ, ◌≤◌, Bool as Truth, true, false, not, ◌&&◌, eqb, List, length, is_some, Ok, Result, sym, refl, ap, ◌∙◌, subst}
-use Rattle.std.proofs.lemmas.Bool.{eq-eqb, ne_eqb, le-leb, and_parts}
-use Rattle.std.specs.Bool.{then_some}
-use Rattle.syntax.specs.Heads.{head}
+use Rattle.std.proofs.Common.{◌≡◌, ℕ, ◌≤◌, Bool as Truth, true, List, length, Ok, Result, sym, refl, ap, ◌∙◌, subst}
+use Rattle.std.proofs.lemmas.Bool.{eq-eqb, le-leb, and_parts}
 use Rattle.syntax.specs.declared.frame.Frame.{Frame}
 use Rattle.syntax.specs.Form.{is_sheet}
 use Rattle.levels.specs.Store.{Store, with_levels}
@@ -11,9 +9,7 @@ use Rattle.walk.specs.declared.verdict.Refusal.{Refusal}
 use Rattle.walk.specs.Judge.{Numbers}
 use Rattle.walk.specs.Step.{Outcome}
 use Rattle.walk.specs.Outcomes.{outcome, verdict_of, column_of, levels_of}
-use Rattle.walk.specs.Params.{param_twice, repeated_param}
-use Rattle.walk.specs.Examined.{sheet_packed, recorded, examined, column_after, store_after, Decides}
-use Rattle.walk.proofs.RepeatPlaces.{twice_found}
+use Rattle.walk.specs.Examined.{recorded, examined, column_after, store_after, Decides}
 use Rattle.walk.proofs.Telling.{verdict_tied, column_tied, levels_tied}
 
 -- the frames as recorded form a sheet without a parameter twice
@@ -39,37 +35,3 @@ decides_walked hs fs n capacity b r c ls h e₁ e₂ e₃ S holds x y z =
       column = e₂ ∙ column_tied S hs holds fs h;
       levels = e₃ ∙ levels_tied S hs holds fs h;
     }
-
--- ===== the test =====
-not_not : (b : Truth) → not (not b) ≡ b
-not_not true = refl
-not_not false = refl
-
-none_after : (s a : Truth) → (s && (a && false)) ≡ false
-none_after true true = refl
-none_after true false = refl
-none_after false a = refl
-
-module _ (fs : List Frame) (name h : ℕ) where
-  -- a sheet with the name and the head is as recorded where no parameter stands twice
-  pub recorded_found : (t n : Truth) → is_sheet fs ≡ true → (head fs).name ≡ name → sheet_packed fs ≡ h → is_some (repeated_param fs) ≡ not n → t ≡ n → t ≡ recorded fs name h
-  recorded_found t n s a b o e =
-      let a' = eq-eqb (head fs).name name a in
-      let b' = eq-eqb (sheet_packed fs) h b in
-      let o' : param_twice fs ≡ not n = sym (twice_found fs) ∙ o in
-      e ∙ sym (rw (s, a', b', o') (not_not n))
-
-  -- with another head it is not, and with another name
-  pub other_head : (t : Truth) → eqb (sheet_packed fs) h ≡ false → t ≡ false → t ≡ recorded fs name h
-  other_head t b e = e ∙ sym (rw b (none_after (is_sheet fs) (eqb (head fs).name name)))
-
-  pub other_name : (t : Truth) → ((head fs).name ≡ name → ⊥) → t ≡ false → t ≡ recorded fs name h
-  other_name t a e = let a' = ne_eqb (head fs).name name a in e ∙ sym (rw a' (ap (λ b. is_sheet fs && b) refl ∙ last (is_sheet fs)))
-    where
-      last : (s : Truth) → (s && false) ≡ false
-      last true = refl
-      last false = refl
-
-pub some_then : {A : Type 0} (b : Truth) (x : A) → is_some (then_some b x) ≡ b
-some_then true x = refl
-some_then false x = refl

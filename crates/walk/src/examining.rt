@@ -18,6 +18,7 @@ const PLACES: usize = 256;
 const ROOM: usize = 256;
 
 // The sheet that the frames form, if it has this name and head, and no parameter twice.
+#[tactic(auto, using(crate::proofs::RepeatPlaces::twice_found))]
 fn as_recorded(frames: &[Frame], name: u16, head: u64) -> Option<Formed>
     ensures test { is_some result ≡ recorded frames.now name head }
     ensures sheet { IfSome result (λ s. frames_of s ≡ frames.now) }
