@@ -19,8 +19,14 @@ module _ {A : Type 0} (xs : List A) (n : ℕ) (h : n ≤ length xs) where
   newest = ap (take n) parted ∙ take_at (reverse (drop (length xs - n) xs)) (reverse (take (length xs - n) xs)) n length_last
 
   -- without them the others are left
-  pub others : drop n (reverse xs) ≡ reverse (take (length xs - n) xs)
+  others : drop n (reverse xs) ≡ reverse (take (length xs - n) xs)
   others = ap (drop n) parted ∙ drop_at (reverse (drop (length xs - n) xs)) (reverse (take (length xs - n) xs)) n length_last
+
+-- with one more after those that are left
+pub settled : {A : Type 0} (xs : List A) (n : ℕ) (x : A) → n ≤ length (reverse xs) → reverse (take (length xs - n) xs ++ x ∷ []) ≡ x ∷ drop n (reverse xs)
+settled xs n x h =
+    let l = length-reverse xs in
+    reverse-append (take (length xs - n) xs) (x ∷ []) ∙ ap (λ l. x ∷ l) (sym (others xs n (omega arith)))
 
 -- a code is the i-th of a list
 abbrev pub is_nth : List ℕ → ℕ × ℕ → Truth

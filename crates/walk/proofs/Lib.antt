@@ -1,4 +1,3 @@
-pub mod Downs
 pub mod Fits
 pub mod Earlier
 pub mod Readies

@@ -1,13 +1,12 @@
 -- The loop of the walk, turn by turn.
-use Rattle.std.proofs.Common.{◌≡◌, ℕ, zero, suc, ◌+◌, ◌-◌, ◌<◌, ◌≤◌, List, [], ◌∷◌, ◌++◌, reverse, length, get_or, take, drop, set, replicate, Ok, Err, Result, sym, refl, ap, ◌∙◌, subst, ap₂, add-one, arith, Option}
-use Rattle.std.proofs.lemmas.List.{drop_more, drop-drop, drop_all, length-set, drop-set-lt, drop-replicate, reverse-append, take_more, take-append-drop, get_or_default}
+use Rattle.std.proofs.Common.{◌≡◌, ℕ, ◌+◌, ◌-◌, ◌<◌, ◌≤◌, List, [], ◌∷◌, ◌++◌, reverse, length, get_or, take, drop, set, replicate, Ok, Err, Result, sym, refl, ap, ◌∙◌, subst, ap₂, arith, Option}
+use Rattle.std.proofs.lemmas.List.{drop_more, drop-drop, drop_all, length-set, length-reverse, length-take-le, drop-set-lt, drop-replicate, reverse-append, reverse-reverse, take_more_set, take-append-drop, get_or_default}
 use Rattle.syntax.specs.declared.frame.Frame.{Frame}
 use Rattle.syntax.specs.Writing.{blank}
 use Rattle.levels.specs.Store.{Store, with_levels}
 use Rattle.rules.specs.declared.violation.Violation.{Violation}
 use Rattle.walk.specs.declared.machine.Machine.{Machine}
 use Rattle.walk.specs.declared.machine.Declaration.{Declaration}
-use Rattle.walk.specs.Stacks.{down, types_of, things_of}
 use Rattle.walk.specs.Judge.{Numbers}
 use Rattle.walk.specs.Step.{State, stepped, start, Turn, turn, Outcome, ended, broken, walked}
 use Rattle.walk.specs.Outcomes.{column_of}
@@ -15,24 +14,22 @@ use Rattle.walk.specs.Places.{At}
 use Rattle.walk.specs.Machines.{Ready, Within, state_of}
 use Rattle.walk.proofs.Agreeing.{Sound}
 use Rattle.walk.proofs.Nexts.{Next, next, nothing_coming, some_coming}
-use Rattle.walk.proofs.Downs as downs
 
 -- what holds before each turn of the loop
 pub record Held (hs : List Numbers) (ρ : ℕ) (fs : List Frame) (i : ℕ) (col : List ℕ) (s : State) (p : Option Declaration) (cap : ℕ) : Type 0 where
-  pub went : walked hs ρ (drop i fs) (down 0 i col) s ≡ walked hs ρ fs [] start
+  pub went : walked hs ρ (drop i fs) (reverse (take i col)) s ≡ walked hs ρ fs [] start
   pub long : length col ≡ 256
   pub rest_blank : drop i col ≡ replicate (256 - i) 0
   pub room : 256 ≤ cap
   pub sound : Sound i (drop i fs) s
   pub within : Within i p
 
-reversed : (col : List ℕ) (n : ℕ) → n ≤ length col → reverse (down 0 n col) ≡ take n col
-unfolding down
-reversed col zero l = refl
-reversed col (suc n) l =
-    reverse-append (get_or col n 0 ∷ []) (down 0 n col)
-    ∙ ap (λ a. a ++ (get_or col n 0 ∷ [])) (reversed col n (omega arith))
-    ∙ sym (take_more col n 0 (omega arith)) ∙ ap (λ k. take k col) (add-one n)
+-- the column so far, the last number first, and with a number more
+pushed : (col : List ℕ) (n t : ℕ) → n < length col → reverse (take (n + 1) (set col n t)) ≡ t ∷ reverse (take n col)
+pushed col n t l = ap reverse (take_more_set col n t l) ∙ reverse-append (take n col) (t ∷ [])
+
+long_so_far : (col : List ℕ) (n : ℕ) → n ≤ length col → length (reverse (take n col)) ≡ n
+long_so_far col n l = length-reverse (take n col) ∙ length-take-le n col l
 
 module _ (hs : List Numbers) (ρ : ℕ) where
   after : Frame → List Frame → List ℕ → State → Result Turn Violation → Outcome
@@ -67,9 +64,9 @@ module _ (hs : List Numbers) (ρ : ℕ) where
         sym (drop-drop 1 i col) ∙ ap (drop 1) h.rest_blank ∙ drop-replicate 1 (256 - i) 0 ∙ ap (λ (k : ℕ). replicate k 0) (omega arith) in
         record {
           went =
-              ap (λ c. walked hs ρ (drop (i + 1) fs) c s') (downs.pushed 0 col i t (omega arith))
-              ∙ sym (goes f (drop (i + 1) fs) (down 0 i col) s s' t e)
-              ∙ ap (λ l. walked hs ρ l (down 0 i col) s) (sym rest) ∙ h.went;
+              ap (λ c. walked hs ρ (drop (i + 1) fs) c s') (pushed col i t (omega arith))
+              ∙ sym (goes f (drop (i + 1) fs) (reverse (take i col)) s s' t e)
+              ∙ ap (λ l. walked hs ρ l (reverse (take i col)) s) (sym rest) ∙ h.went;
           long = ls ∙ lc;
           rest_blank = drop-set-lt (i + 1) col i t (omega arith) ∙ d;
           room = omega (arith, c, h.room);
@@ -77,26 +74,28 @@ module _ (hs : List Numbers) (ρ : ℕ) where
           within = w;
         }
 
-    pub stops : (e : Violation) → stepped hs ρ f s ≡ Err e → walked hs ρ fs [] start ≡ broken e i s.levels
-    stops e k =
-        sym h.went ∙ ap (λ l. walked hs ρ l (down 0 i col) s) rest ∙ breaks f (drop (i + 1) fs) (down 0 i col) s e k
-        ∙ ap (λ n. broken e n s.levels) (downs.length_down 0 col i)
+    pub stops : (e : Violation) → length fs ≤ 256 → stepped hs ρ f s ≡ Err e → walked hs ρ fs [] start ≡ broken e i s.levels
+    stops e few k =
+        let lc = h.long in
+        let in_fs = at.within in
+        sym h.went ∙ ap (λ l. walked hs ρ l (reverse (take i col)) s) rest ∙ breaks f (drop (i + 1) fs) (reverse (take i col)) s e k
+        ∙ ap (λ n. broken e n s.levels) (long_so_far col i (omega arith))
 
   module _ (fs : List Frame) (i : ℕ) (col : List ℕ) (s : State) (p : Option Declaration) (cap : ℕ) (h : Held hs ρ fs i col s p cap) where
-    pub at_end : length fs ≤ i → walked hs ρ fs [] start ≡ ended (down 0 i col) s.levels
-    at_end k = sym h.went ∙ ap (λ l. walked hs ρ l (down 0 i col) s) (drop_all i fs k) ∙ over (down 0 i col) s
+    pub at_end : length fs ≤ i → walked hs ρ fs [] start ≡ ended (reverse (take i col)) s.levels
+    at_end k = sym h.went ∙ ap (λ l. walked hs ρ l (reverse (take i col)) s) (drop_all i fs k) ∙ over (reverse (take i col)) s
 
-    pub column_end : i ≤ 256 → column_of (ended (down 0 i col) s.levels) ≡ col
+    pub column_end : i ≤ 256 → column_of (ended (reverse (take i col)) s.levels) ≡ col
     column_end k =
         let lc = h.long in
-        ap₂ (λ a n. a ++ replicate (256 - n) 0) (reversed col i (omega arith)) (downs.length_down 0 col i)
+        ap₂ (λ a n. a ++ replicate (256 - n) 0) (reverse-reverse (take i col)) (long_so_far col i (omega arith))
         ∙ ap (λ l. take i col ++ l) (sym h.rest_blank)
         ∙ take-append-drop i col
 
   pub begin : (fs : List Frame) (col : List ℕ) (s : State) (p : Option Declaration) (cap : ℕ) → s ≡ start → Within 0 p → 256 ≤ cap → col ≡ replicate 256 0 → Sound 0 fs start → Held hs ρ fs 0 col s p cap
   begin fs col s p cap e w c b so =
       record {
-        went = ap₂ (λ l s. walked hs ρ fs l s) (downs.none 0 col) e;
+        went = ap (λ s. walked hs ρ fs [] s) e;
         long = ap length b;
         rest_blank = b;
         room = c;
@@ -110,10 +109,10 @@ module _ (hs : List Numbers) (ρ : ℕ) (fs : List Frame) (i : ℕ) (col : List 
   known : Next cap i (drop (i + 1) fs) f (state_of m fs i ls) m.pending
   known =
       let w = at.within in
-      next cap i (drop (i + 1) fs) f (state_of m fs i ls) m.pending h.room (omega arith) (nothing_coming i (things_of m.things) m.pending fs)
-      (some_coming i (things_of m.things) m.pending fs h.within) (sound_here hs ρ fs i col (state_of m fs i ls) m.pending cap f at h)
+      next cap i (drop (i + 1) fs) f (state_of m fs i ls) m.pending h.room (omega arith) (nothing_coming i m.things m.pending fs)
+      (some_coming i m.things m.pending fs h.within) (sound_here hs ρ fs i col (state_of m fs i ls) m.pending cap f at h)
 
-  pub ready : Ready cap i f (types_of m.operands) ls (things_of m.things) m.pending
+  pub ready : Ready cap i f m.operands ls m.things m.pending
   ready = known.ready
 
   pub again : (m' : Machine) (ls' : List Numbers) (cap' t : ℕ) → stepped hs ρ f (state_of m fs i ls) ≡ Ok (turn t (state_of m' fs (i + 1) ls')) → cap' ≡ cap → Within (i + 1) m'.pending

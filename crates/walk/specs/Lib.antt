@@ -1,4 +1,3 @@
-pub mod Stacks
 pub mod Judge
 pub mod Step
 pub mod Places

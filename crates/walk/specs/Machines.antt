@@ -10,7 +10,6 @@ use Rattle.walk.specs.declared.machine.Machine.{Machine}
 use Rattle.walk.specs.declared.machine.Declaration.{Declaration}
 use Rattle.walk.specs.declared.place.Place.{Place}
 use Rattle.walk.specs.Places.{between}
-use Rattle.walk.specs.Stacks.{types_of, things_of}
 use Rattle.walk.specs.Judge.{Numbers, arity}
 use Rattle.walk.specs.Step.{Names as Coming, idle, naming, State, state, Turn, turn}
 
@@ -44,7 +43,7 @@ pub record Room (s : Store ℕ) : Type 0 where
 
 -- the state of the walk before the frame at the place i
 abbrev pub state_of : Machine → List Frame → ℕ → List Numbers → State
-state_of m fs i ls = state (types_of m.operands) ls (things_of m.things) (coming_at i (things_of m.things) m.pending fs)
+state_of m fs i ls = state m.operands ls m.things (coming_at i m.things m.pending fs)
 
 -- the state of the walk before the frame at a place, and after it
 abbrev pub before : Place → Machine → Store ℕ → State
@@ -91,4 +90,4 @@ pub record Ready (cap : ℕ) (i : ℕ) (f : Frame) (os : List ℕ) (ls : List Nu
 
 -- the same of the code's state before the frame at a place
 abbrev pub IsReady : Place → Machine → Store ℕ → Type 0
-IsReady p m s = Ready s.capacity p.i p.frame (types_of m.operands) s.levels (things_of m.things) m.pending
+IsReady p m s = Ready s.capacity p.i p.frame m.operands s.levels m.things m.pending

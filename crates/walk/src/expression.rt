@@ -3,7 +3,6 @@ ghost use Rattle.std.specs.Prelude.{◌≡◌, ◌≤◌, length};
 ghost use Rattle.levels.specs.Store.{looked};
 ghost use Rattle.rules.specs.declared.violation.Violation.TheVariants.{Undeclared};
 ghost use Rattle.rules.specs.Faults.{need};
-ghost use Rattle.walk.specs.Stacks.{types_of};
 ghost use Rattle.walk.specs.Judge.{arity, operated, called, judge};
 
 use crate::codes::{BOOL, DOUBLE, INT, STRING};
@@ -42,8 +41,8 @@ fn operator(kind: u8, a: u8, b: u8) -> Result<u8, Violation>
 
 // The type that a call of the head with so many operands gives.
 fn call(head: Option<u64>, count: u32, operands: &Operands) -> Result<u8, Violation>
-    requires { count ≤ length (types_of operands.now) }
-    ensures { result ≡ called head count (types_of operands.now) }
+    requires { count ≤ length operands.now }
+    ensures { result ≡ called head count operands.now }
 {
     let head = head.ok_or(Violation::NoFunction)?;
     if count as usize != heads::count(head) {
@@ -70,8 +69,8 @@ pub(crate) fn type_of<H: Looking<u64>, S: Looking<u8>>(
     variables: &S,
 ) -> Result<u8, Violation>
     requires kind { 0x20 ≤ frame.kind }
-    requires ready { arity frame ≤ length (types_of operands.now) }
-    ensures { result ≡ judge (H.Looking.meaning heads.now).levels (S.Looking.meaning variables.now).levels frame (types_of operands.now) }
+    requires ready { arity frame ≤ length operands.now }
+    ensures { result ≡ judge (H.Looking.meaning heads.now).levels (S.Looking.meaning variables.now).levels frame operands.now }
 {
     match frame.kind {
         0x20 | 0x21 => Ok(BOOL),

@@ -11,7 +11,6 @@ pub mod params;
 mod place;
 mod running;
 pub mod theorems;
-mod things;
 mod variables;
 pub mod verdict;
 

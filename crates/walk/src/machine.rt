@@ -1,6 +1,10 @@
 // The state of a walk besides the levels of variables.
+ghost use Rattle.std.specs.Prelude.{◌≡◌};
+ghost use Rattle.rules.specs.Walk.{alone};
+
 use crate::operands::Operands;
-use crate::things::Things;
+use frames::Things;
+use syntax::Unfinished;
 
 // The names of a declaration that are to come: the code of their type, how many, and where the first stands.
 #[derive(Clone, Copy)]
@@ -16,6 +20,15 @@ pub struct Machine {
     operands: Operands,
     things: Things,
     pending: Option<Declaration>,
+}
+
+impl Machine {
+    // Whether the next statement stands directly under a loop or a choice.
+    fn alone(&self) -> bool
+        ensures { result ≡ alone self.now.things }
+    {
+        !matches!(self.things.innermost(), None | Some(Unfinished::Block))
+    }
 }
 
 pub mod naming;

@@ -3,7 +3,6 @@ ghost use Rattle.std.specs.Prelude.{◌≡◌, ◌+◌, ◌<◌, false, ◌||◌
 ghost use Rattle.levels.specs.Store.{stands, with_levels};
 ghost use Rattle.rules.specs.Judge.{among};
 ghost use Rattle.rules.specs.Walk.{alone};
-ghost use Rattle.walk.specs.Stacks.{types_of, things_of};
 ghost use Rattle.walk.specs.Step.{kept, named, initial, state, idle};
 ghost use Rattle.walk.specs.Machines.{awaited, pending_of, coming_at, after, unkept, Does, Room, Awaits, Within};
 
@@ -18,8 +17,8 @@ use syntax::Frame;
 impl Machine {
     // So many names are to come of a declaration.
     pub(crate) fn await_names(&mut self, declaration: Declaration)
-        ensures operands { types_of self.new.operands ≡ types_of self.old.operands }
-        ensures things { things_of self.new.things ≡ awaited declaration.left (things_of self.old.things) }
+        ensures operands { self.new.operands ≡ self.old.operands }
+        ensures things { self.new.things ≡ awaited declaration.left self.old.things }
         ensures pending { self.new.pending ≡ pending_of declaration.t declaration.left declaration.first }
     {
         if declaration.left == 0 {
@@ -32,18 +31,18 @@ impl Machine {
 
     // Whether a name stands on the top level or, in a statement that stands alone, earlier in its declaration.
     fn repeated<S: Looking<u8>>(&self, name: u16, earlier: &[Frame], variables: &S) -> bool
-        ensures { result ≡ (stands (S.Looking.meaning variables.now).levels name || among (unkept (things_of self.now.things) earlier.now) name) }
+        ensures { result ≡ (stands (S.Looking.meaning variables.now).levels name || among (unkept self.now.things earlier.now) name) }
     {
-        variables.here(name) || (self.things.alone() && newest(earlier, name).is_some())
+        variables.here(name) || (self.alone() && newest(earlier, name).is_some())
     }
 
     // Declares a name, unless the statement stands alone.
     fn keep<S: Declaring<u8>>(&self, name: u16, t: u8, variables: &mut S)
         requires room { Room (S.Looking.meaning variables.old) }
-        requires fresh { alone (things_of self.now.things) ≡ false → stands (S.Looking.meaning variables.old).levels name ≡ false }
-        ensures { S.Looking.meaning variables.new ≡ with_levels (S.Looking.meaning variables.old) (kept (things_of self.now.things) (S.Looking.meaning variables.old).levels name t) }
+        requires fresh { alone self.now.things ≡ false → stands (S.Looking.meaning variables.old).levels name ≡ false }
+        ensures { S.Looking.meaning variables.new ≡ with_levels (S.Looking.meaning variables.old) (kept self.now.things (S.Looking.meaning variables.old).levels name t) }
     {
-        if !self.things.alone() {
+        if !self.alone() {
             variables::add(variables, name, t);
         }
     }
@@ -56,7 +55,7 @@ impl Machine {
     ) -> Result<(), Violation>
         requires awaits { Awaits place.now.i self.old.pending }
         requires room { Room (S.Looking.meaning variables.old) }
-        ensures does { Does (named (types_of self.old.operands) (S.Looking.meaning variables.old).levels (things_of self.old.things) place.now.frame.name (coming_at place.now.i (things_of self.old.things) self.old.pending place.now.frames.now)) (S.Looking.meaning variables.old).levels (after place.now self.new (S.Looking.meaning variables.new)) result }
+        ensures does { Does (named self.old.operands (S.Looking.meaning variables.old).levels self.old.things place.now.frame.name (coming_at place.now.i self.old.things self.old.pending place.now.frames.now)) (S.Looking.meaning variables.old).levels (after place.now self.new (S.Looking.meaning variables.new)) result }
         ensures capacity { (S.Looking.meaning variables.new).capacity ≡ (S.Looking.meaning variables.old).capacity }
         ensures within { Within (place.now.i + 1) self.new.pending }
     {
@@ -81,9 +80,9 @@ impl Machine {
         frame: Frame,
         variables: &mut S,
     ) -> Result<(), Violation>
-        requires value { 0 < length (types_of self.old.operands) }
+        requires value { 0 < length self.old.operands }
         requires room { Room (S.Looking.meaning variables.old) }
-        ensures does { Does (initial (types_of self.old.operands) (S.Looking.meaning variables.old).levels (things_of self.old.things) frame) (S.Looking.meaning variables.old).levels (state (types_of self.new.operands) (S.Looking.meaning variables.new).levels (things_of self.new.things) idle) result }
+        ensures does { Does (initial self.old.operands (S.Looking.meaning variables.old).levels self.old.things frame) (S.Looking.meaning variables.old).levels (state self.new.operands (S.Looking.meaning variables.new).levels self.new.things idle) result }
         ensures pending { self.new.pending ≡ self.old.pending }
         ensures capacity { (S.Looking.meaning variables.new).capacity ≡ (S.Looking.meaning variables.old).capacity }
     {

@@ -1,7 +1,6 @@
 // What a walk does with a frame.
 ghost use Rattle.std.specs.Prelude.{◌≡◌, ◌+◌, ◌<◌, [], None};
 ghost use Rattle.syntax.specs.Heads.{head};
-ghost use Rattle.walk.specs.Stacks.{types_of, things_of};
 ghost use Rattle.walk.specs.Step.{stated, governed, stepped};
 ghost use Rattle.walk.specs.Machines.{before, after, Does, Within, Steps, IsReady};
 
@@ -10,8 +9,8 @@ use crate::codes::{BOOL, VOID};
 use crate::expression::{parts, type_of};
 use crate::operands::Operands;
 use crate::place::Place;
-use crate::things::Things;
 use crate::variables;
+use frames::Things;
 use levels::store::{Declaring, Looking};
 use rules::Violation;
 use syntax::Unfinished;
@@ -19,8 +18,8 @@ use syntax::Unfinished;
 impl Machine {
     // Before the first frame.
     pub(crate) fn new() -> Self
-        ensures operands { types_of result.operands ≡ [] }
-        ensures things { things_of result.things ≡ [] }
+        ensures operands { result.operands ≡ [] }
+        ensures things { result.things ≡ [] }
         ensures pending { result.pending ≡ None }
     {
         Machine {
@@ -87,7 +86,7 @@ impl Machine {
             0x14 | 0x15 => return Err(Violation::OtherReturn),
             0x16 => {
                 variables::enter(variables);
-                self.things.begin(Unfinished::Block);
+                self.things.begin(Unfinished::Block).unwrap();
             }
             0x17 => {
                 variables::leave(variables);
@@ -95,7 +94,7 @@ impl Machine {
             }
             0x18..=0xFF if self.operands.at(0) == BOOL => {
                 self.operands.pop();
-                self.things.begin(governing(frame.kind));
+                self.things.begin(governing(frame.kind)).unwrap();
             }
             _ => return Err(Violation::NoCondition),
         }

@@ -42,6 +42,7 @@ loop-i-preserved g c =
 pub returns-in-Err : goal.returns-in-Err
 returns-in-Err g c =
     let fs = c.frames-frames.result.now in
+    let few = nexts.sheet_short fs (ap is_sheet c.frames-frames.ensures.result ∙ c.args.sheet.now.formed) in
     let e = c.in-Err.ensures in
     let store = g.S.Looking.meaning c.args.variables.now in
     let hs = (g.H.Looking.meaning c.args.heads.now).levels in
@@ -49,7 +50,7 @@ returns-in-Err g c =
     let out =
     ap (outcome hs) (sym c.frames-frames.ensures.result)
     ∙ turns.stops _ _ fs c.loop-i.i c.loop-i.column (state_of c.loop-i.machine fs c.loop-i.i ls) c.loop-i.machine.pending _ _ (turns.at_place fs c.loop-i.i c.loop-i-test.true) c.loop-i.invariant.0
-    c.in-Err.violation e.does.0 in
+    c.in-Err.violation few e.does.0 in
     record {
       result = sym (ap verdict_of out);
       column = c.fill.ensures.after (λ y h. h) ∙ ap (λ (n : ℕ). replicate n 0) c.loop-i.invariant.0.long ∙ sym (ap column_of out);

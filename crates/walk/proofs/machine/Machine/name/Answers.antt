@@ -1,7 +1,6 @@
 use Rattle.std.proofs.Common.{◌+◌, ◌-◌, ◌||◌, Ok, sym, ap, ◌∙◌, subst}
 use Rattle.levels.specs.Store.{stands}
 use Rattle.rules.specs.Judge.{among}
-use Rattle.walk.specs.Stacks.{things_of, types_of}
 use Rattle.walk.specs.Step.{named}
 use Rattle.walk.specs.Machines.{unkept, coming_at, Awaits, Within}
 use Rattle.walk.proofs.Earlier as earlier
@@ -14,8 +13,8 @@ returns g c =
     let fs = p.frames.now in
     let i = p.i in
     let ls = (g.S.Looking.meaning c.args.variables.now).levels in
-    let os = types_of m.operands in
-    let u = things_of m.things in
+    let os = m.operands in
+    let u = m.things in
     let d = c.in-Some.declaration in
     let a = subst (Awaits i) c.in-Some.is c.requires.awaits in
     let e = c.await_names.ensures in
