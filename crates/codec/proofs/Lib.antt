@@ -1,4 +1,3 @@
 pub mod Hex
 pub mod Lines
-pub mod TextTurns
 pub mod TextLaw

@@ -1,10 +1,9 @@
 -- A line taken apart and put together.
-use Rattle.std.proofs.Common.{◌≡◌, ℕ, ◌+◌, ◌*◌, ◌≤◌, List, [], ◌∷◌, ◌++◌, length, get_or, take, drop, set, sym, refl, ap, ◌∙◌, arith}
-use Rattle.std.proofs.lemmas.List.{append_assoc, length-append, length-drop, drop_at, take_at, drop-drop, drop_more, get_or-drop, take-append-drop, take-append-le, length_push, get_or_push}
-use lib.Seq.{paste}
-use Rattle.std.proofs.lemmas.List.Edits.{paste-paste, paste_more}
+use Rattle.std.proofs.Common.{◌≡◌, ℕ, ◌+◌, ◌*◌, ◌≤◌, ◌≢◌, min, List, [], ◌∷◌, ◌++◌, length, get_or, take, drop, set, sym, refl, ap, ◌∙◌, arith}
+use Rattle.std.proofs.lemmas.List.{append_assoc, append-nil, length-append, length-drop, length-take-le, drop_at, drop_all, take_at, set_at, drop-drop, drop_more, get_or-drop, take-append-drop}
 use Rattle.syntax.specs.declared.frame.Frame.{Frame}
 use Rattle.codec.specs.Text.{hexes, line_of, text_of}
+use Rattle.codec.specs.Codec.{NoLine}
 use Rattle.codec.proofs.Hex.{length_hexes}
 
 -- the text begins with the line of f
@@ -48,7 +47,7 @@ apart text f s e =
 cut : (text : List ℕ) (n m : ℕ) → drop n text ≡ take m (drop n text) ++ drop (n + m) text
 cut text n m = sym (take-append-drop m (drop n text)) ∙ ap (λ l. take m (drop n text) ++ l) (drop-drop m n text)
 
-pub together : (text : List ℕ) (f : Frame) → Parts text f → text ≡ line_of f ++ drop 17 text
+together : (text : List ℕ) (f : Frame) → Parts text f → text ≡ line_of f ++ drop 17 text
 together text f p =
     let c0 : text ≡ take 2 text ++ drop 2 text = cut text 0 2 in
     let c2 : drop 2 text ≡ take 2 (drop 2 text) ++ drop 4 text = cut text 2 2 in
@@ -59,33 +58,53 @@ together text f p =
     let o = opened f (drop 17 text) in
     cc
 
+-- a line that is a frame's, taken apart
+pub apart_line : (line : List ℕ) (f : Frame) → line ≡ line_of f → Parts line f
+apart_line line f e = apart line f [] (e ∙ sym (append-nil (line_of f)))
+
+-- the parts of a line make it
+pub together_line : (line : List ℕ) (f : Frame) → length line ≡ 17 → Parts line f → line ≡ line_of f
+together_line line f size p =
+    together line f p ∙ ap (λ l. line_of f ++ l) (drop_all 17 line (omega arith)) ∙ append-nil (line_of f)
+
+-- where the front of a text is no line, no line stands there
+pub no_line : (rest line more : List ℕ) → rest ≡ line ++ more → length line ≡ min 17 (length rest) → ((f : Frame) → line ≢ line_of f) → NoLine rest
+no_line rest line more parts size none f s e =
+    let long : 17 ≤ length rest = (apart rest f s e).long in
+    let whole : length line ≡ 17 = omega arith in
+    none f (sym (take_at line more 17 whole) ∙ ap (take 17) (sym parts ∙ e) ∙ take_at (line_of f) s 17 (length_line f))
+
 pub length_text : (fs : List Frame) → length (text_of fs) ≡ 17 * length fs
 length_text [] = refl
 length_text (f ∷ fs) = omega (arith, length-append (line_of f) (text_of fs), length_line f, length_text fs)
 
--- five writes, one after the other, are a line
-pub pasted : (d : List ℕ) (at : ℕ) (f : Frame) → at + 17 ≤ length d →
-    set (paste (paste (paste (paste d at (hexes 2 f.kind) 2) (at + 2) (hexes 2 f.t) 2) (at + 4) (hexes 4 f.name) 4) (at + 8) (hexes 8 f.load) 8) (at + 16) 10 ≡ paste d at (line_of f) 17
+-- the first k bytes become the digits of n
+pub put_front : (line ys : List ℕ) (k n : ℕ) → k ≤ length line → ys ≡ hexes (length (take k line)) n →
+    (ys ++ drop k (drop 0 line) ≡ hexes k n ++ drop k line) × (length (hexes k n) ≡ k)
+put_front line ys k n room by =
+    let l : length (take k line) ≡ k = length-take-le k line room in
+    let d = drop-drop k 0 line in
+    let z : 0 + k ≡ k = omega arith in
+    ((cc), length_hexes k n)
+
+-- of the line so far, p stands in front and the next k bytes become the digits of n
+pub put_part : (line p ys now : List ℕ) (i k n : ℕ) → now ≡ p ++ drop i line → length p ≡ i → i + k ≤ length line → ys ≡ hexes (length (take k (drop i now))) n →
+    (take i now ++ (ys ++ drop k (drop i now)) ≡ (p ++ hexes k n) ++ drop (i + k) line) × (length (p ++ hexes k n) ≡ i + k)
+put_part line p ys now i k n is size room by =
+    let t = take_at p (drop i line) i size in
+    let d = drop_at p (drop i line) i size in
+    let m = drop-drop k i line in
+    let l : length (take k (drop i line)) ≡ k = length-take-le k (drop i line) (omega (arith, length-drop i line)) in
+    let o = append_assoc p (hexes k n) (drop (i + k) line) in
+    ((cc), omega (arith, length-append p (hexes k n), length_hexes k n))
+
+-- the last byte ends the line
+pub fed : (line p now : List ℕ) (f : Frame) → length line ≡ 17 → length p ≡ 16 → now ≡ p ++ drop 16 line →
+    p ≡ ((hexes 2 f.kind ++ hexes 2 f.t) ++ hexes 4 f.name) ++ hexes 8 f.load → set now 16 10 ≡ line_of f
 unfolding line_of
-pasted dd at f h =
-    let a = hexes 2 f.kind in
-    let b = hexes 2 f.t in
-    let c = hexes 4 f.name in
-    let d = hexes 8 f.load in
-    let la = length_hexes 2 f.kind in
-    let lb = length_hexes 2 f.t in
-    let lc = length_hexes 4 f.name in
-    let ld = length_hexes 8 f.load in
-    let lab = length-append a b in
-    let labc = length-append (a ++ b) c in
-    let labcd = length-append ((a ++ b) ++ c) d in
-    let p2 = paste-paste dd at a b 2 2 (sym la) (sym lb) (omega arith) in
-    let p3 = paste-paste dd at (a ++ b) c 4 4 (omega arith) (sym lc) (omega arith) in
-    let p4 = paste-paste dd at ((a ++ b) ++ c) d 8 8 (omega arith) (sym ld) (omega arith) in
-    let x = ((a ++ b) ++ c) ++ d in
-    let whole : x ++ (10 ∷ []) ≡ line_of f = simp append_assoc in
-    let lx = length_push x 10 in
-    let t = take-append-le 16 x (10 ∷ []) (omega arith) in
-    let g = get_or_push x 10 0 16 (omega arith) in
-    let m = paste_more dd at (x ++ (10 ∷ [])) 16 0 (omega arith) (omega arith) in
+fed line p now f size front is by =
+    let m = drop_more line 16 0 (omega arith) in
+    let z = drop_all 17 line (omega arith) in
+    let s = set_at p (get_or line 16 0) [] 10 16 front in
+    let o : (((hexes 2 f.kind ++ hexes 2 f.t) ++ hexes 4 f.name) ++ hexes 8 f.load) ++ (10 ∷ []) ≡ line_of f = simp append_assoc in
     cc

@@ -1,29 +1,31 @@
 // The text of frames.
-ghost use Rattle.std.specs.Prelude.{◌≡◌, ℕ, ◌+◌, ◌*◌, ◌^◌, ◌<◌, ◌≤◌, List, ◌++◌, length, drop, Some, None, ◌≢◌};
-ghost use Rattle.std.proofs.Math.Seq.{paste};
-ghost use Rattle.codec.specs.Text.{digit, hexes, line_of, text_of, Fit};
-ghost use Rattle.codec.specs.Codec.{NoLine, Reads, Only, Writes, Inverse};
+ghost use Rattle.std.specs.Prelude.{◌≡◌, ℕ, ◌^◌, ◌<◌, ◌≤◌, length, MatchOption, ◌≢◌};
+ghost use Rattle.syntax.specs.declared.frame.Frame.{Frame};
+ghost use Rattle.codec.specs.Text.{digit, hexes, line_of, Fit};
+ghost use Rattle.codec.specs.Codec.{Reads, Only, Writes, Inverse};
 
 use syntax::{Fault, Frame};
 
-// The byte that ends a line.
-const NEWLINE: u8 = 10;
+// A line has two digits of kind, two of t, four of name and eight of load, and the byte that ends it.
+const LINE: usize = 17;
+
+const NEWLINE: u8 = b'\n';
 
 // The byte of a digit below 16.
 fn digit_byte(d: u8) -> u8
     requires { d < 16 }
     ensures { result ≡ digit d }
 {
-    if d < 10 { 48 + d } else { 55 + d }
+    if d < 10 { b'0' + d } else { b'A' + (d - 10) }
 }
 
 // The digit of a byte, if it is one.
 fn digit_value(b: u8) -> Option<u8>
-    ensures { elim result [ Some d ↦ (d < 16) × (b ≡ digit d) | None ↦ ((d : ℕ) → d < 16 → b ≢ digit d) ] }
+    ensures { MatchOption result ((d : ℕ) → d < 16 → b ≢ digit d) (λ d. (d < 16) × (b ≡ digit d)) }
 {
     match b {
-        b'0'..=b'9' => Some(b - 48),
-        b'A'..=b'F' => Some(b - 55),
+        b'0'..=b'9' => Some(b - b'0'),
+        b'A'..=b'F' => Some(b - b'A' + 10),
         _ => None,
     }
 }
@@ -31,32 +33,26 @@ fn digit_value(b: u8) -> Option<u8>
 // The number that the digits spell, highest first.
 fn hex_value(digits: &[u8]) -> Option<u32>
     requires { length digits.now ≤ 8 }
-    ensures { elim result [ Some n ↦ (n < 16 ^ length digits.now) × (digits.now ≡ hexes (length digits.now) n) | None ↦ ((n : ℕ) → digits.now ≢ hexes (length digits.now) n) ] }
+    ensures { MatchOption result ((n : ℕ) → digits.now ≢ hexes (length digits.now) n) (λ n. (n < 16 ^ length digits.now) × (digits.now ≡ hexes (length digits.now) n)) }
 {
-    let mut n: u32 = 0;
+    let mut n = 0;
     for b in digits {
-        match digit_value(*b) {
-            Some(d) => n = n * 16 + d as u32,
-            None => return None,
-        }
+        n = n * 16 + u32::from(digit_value(*b)?);
     }
     Some(n)
 }
 
-// The frame whose line stands at the front of `text`.
-fn read_line(text: &[u8]) -> Option<Frame>
-    ensures { elim result [ Some f ↦ Fit f × (17 ≤ length text.now) × (text.now ≡ line_of f ++ drop 17 text.now) | None ↦ NoLine text.now ] }
+// The frame that has the line, if one has.
+fn read_line(line: &[u8]) -> Option<Frame>
+    ensures { MatchOption result ((f : Frame) → line.now ≢ line_of f) (λ f. Fit f × (line.now ≡ line_of f)) }
 {
-    if text.len() < 17 {
+    if line.len() != LINE || line[LINE - 1] != NEWLINE {
         return None;
     }
-    if text[16] != NEWLINE {
-        return None;
-    }
-    let kind = hex_value(&text[0..2])?;
-    let t = hex_value(&text[2..4])?;
-    let name = hex_value(&text[4..8])?;
-    let load = hex_value(&text[8..16])?;
+    let kind = hex_value(&line[0..2])?;
+    let t = hex_value(&line[2..4])?;
+    let name = hex_value(&line[4..8])?;
+    let load = hex_value(&line[8..16])?;
     Some(Frame {
         kind: kind as u8,
         t: t as u8,
@@ -66,64 +62,58 @@ fn read_line(text: &[u8]) -> Option<Frame>
 }
 
 // Reads line by line; answers the count of frames, and keeps those read before a fault.
+#[tactic(auto, using(crate::proofs::TextLaw::reads_once, crate::proofs::TextLaw::inverse, crate::proofs::Lines::no_line))]
 pub fn read(text: &[u8], frames: &mut [Frame]) -> Result<usize, Fault>
     ensures does { Reads text.now frames.old frames.new result }
     ensures only { Only text.now frames.old frames.new result }
     ensures law { Inverse }
 {
-    let mut at: usize = 0;
-    let mut n: usize = 0;
-    while at < text.len() {
+    for (n, line) in text.chunks(LINE).enumerate() {
         if n >= frames.len() {
             return Err(Fault::FramesFull(n));
         }
-        match read_line(&text[at..text.len()]) {
-            Some(f) => {
-                frames[n] = f;
-                n += 1;
-                at += 17;
-            }
-            None => return Err(Fault::BadLine(n)),
-        }
+        let Some(frame) = read_line(line) else {
+            return Err(Fault::BadLine(n));
+        };
+        frames[n] = frame;
     }
-    Ok(n)
+    Ok(text.len() / LINE)
 }
 
-// The lowest `width` digits of `n`, from `at` on.
-fn put_hex(text: &mut [u8], at: usize, width: usize, n: u32)
-    requires { at + width ≤ length text.old }
-    ensures { text.new ≡ paste text.old at (hexes width n) width }
+// The lowest digits of the number, as many as there are places.
+fn put_hex(digits: &mut [u8], n: u32)
+    ensures { digits.new ≡ hexes (length digits.old) n }
 {
     let mut left = n;
-    let mut k = width;
-    while k > 0 {
-        k -= 1;
-        text[at + k] = digit_byte((left % 16) as u8);
+    // By index: with `iter_mut().rev()` the proof doesn't close, as its goal's list, `digits-1.given.0`, has only a known length.
+    for k in (0..digits.len()).rev() {
+        digits[k] = digit_byte((left % 16) as u8);
         left /= 16;
     }
 }
 
-// The line of a frame, from `at` on.
-fn put_line(text: &mut [u8], at: usize, f: Frame)
-    requires { at + 17 ≤ length text.old }
-    ensures { text.new ≡ paste text.old at (line_of f) 17 }
+// The line of a frame.
+fn put_line(line: &mut [u8], f: Frame)
+    requires { length line.old ≡ 17 }
+    ensures { line.new ≡ line_of f }
 {
-    put_hex(text, at, 2, f.kind as u32);
-    put_hex(text, at + 2, 2, f.t as u32);
-    put_hex(text, at + 4, 4, f.name as u32);
-    put_hex(text, at + 8, 8, f.load);
-    text[at + 16] = NEWLINE;
+    put_hex(&mut line[0..2], u32::from(f.kind));
+    put_hex(&mut line[2..4], u32::from(f.t));
+    put_hex(&mut line[4..8], u32::from(f.name));
+    put_hex(&mut line[8..16], f.load);
+    line[LINE - 1] = NEWLINE;
 }
 
 // Writes a line for each frame; answers the count of bytes.
 pub fn write(frames: &[Frame], text: &mut [u8]) -> Result<usize, Fault>
     ensures does { Writes frames.now text.old text.new result }
 {
-    if text.len() / 17 < frames.len() {
+    if text.len() / LINE < frames.len() {
         return Err(Fault::TextShort);
     }
+    // By index: with `chunks_exact_mut(LINE).zip(frames)` the proof doesn't close, as the area's bytes after the loop aren't known.
     for (i, f) in frames.iter().enumerate() {
-        put_line(text, 17 * i, *f);
+        put_line(&mut text[LINE * i..LINE * i + LINE], *f);
     }
-    Ok(17 * frames.len())
+    Ok(LINE * frames.len())
 }

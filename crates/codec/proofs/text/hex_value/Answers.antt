@@ -1,5 +1,5 @@
-use Rattle.std.proofs.Common.{◌≡◌, ◌^◌, ◌<◌, length, get_or, refl, ap, ◌∙◌, subst, arith}
-use Rattle.std.proofs.lemmas.List.{take_more, take_all}
+use Rattle.std.proofs.Common.{length, get_or, refl, ap, ◌∙◌, arith}
+use Rattle.std.proofs.lemmas.List.{take_more}
 use Rattle.codec.specs.Text.{hexes}
 use Rattle.codec.proofs.Hex.{hexes_digit, hexes_more, pow_step, pow_bound}
 use Rattle.codec.proofs.text.hex_value.Goals as goal
@@ -11,27 +11,18 @@ loop-b-init c = (omega arith, refl)
 pub overflow_mul-n : goal.overflow_mul-n
 overflow_mul-n c = omega (arith, pow_bound c.loop-b.n c.loop-b.b-index 7 c.loop-b.invariant.0 (omega arith))
 
-pub overflow_add-n : goal.overflow_add-n
-overflow_add-n c = omega (arith, c.in-Some.ensures.0, pow_bound c.loop-b.n c.loop-b.b-index 7 c.loop-b.invariant.0 (omega arith))
-
-pub returns-in-None : goal.returns-in-None
-returns-in-None c =
-    λ n e.
+pub returns-in_err-digit_value : goal.returns-in_err-digit_value
+returns-in_err-digit_value c =
+    rw c.from_residual.ensures (λ n e.
     let r = hexes_digit (length c.args.digits.now) n c.loop-b.b-index (omega arith) in
-    c.in-None.ensures r.0 r.1 (ap (λ l. get_or l c.loop-b.b-index 0) e ∙ r.2)
+    c.in_err-digit_value.ensures r.0 r.1 (ap (λ l. get_or l c.loop-b.b-index 0) e ∙ r.2))
 
 pub loop-b-preserved : goal.loop-b-preserved
 loop-b-preserved c =
-    let h = c.in-Some.ensures in
-    let m = hexes_more c.loop-b.b-index c.loop-b.n c.in-Some.d h.0 in
+    let d = c.in_ok-digit_value.field-0 in
+    let h = c.in_ok-digit_value.ensures in
+    let v = h.1 in
+    let m = hexes_more c.loop-b.b-index c.loop-b.n d h.0 in
     let t = take_more c.args.digits.now c.loop-b.b-index 0 (omega arith) in
     let i = c.loop-b.invariant.1 in
-    let v = h.1 in
-    (pow_step _ _ _ c.loop-b.invariant.0 h.0, (cc))
-
-pub returns : goal.returns
-returns c =
-    let i : c.loop-b.b-index ≡ length c.args.digits.now = omega arith in
-    let t = take_all c.loop-b.b-index c.args.digits.now (omega arith) in
-    let h = c.loop-b.invariant.1 in
-    (subst (λ k. c.loop-b.n < 16 ^ k) i c.loop-b.invariant.0, (cc))
+    rw c.from.ensures (pow_step _ _ _ c.loop-b.invariant.0 h.0, (cc))

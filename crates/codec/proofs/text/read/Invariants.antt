@@ -1,9 +1,13 @@
-use Rattle.std.proofs.Common.{◌≡◌, ◌-◌, ◌*◌, ◌≤◌, length, drop}
+use Rattle.std.proofs.Common.{◌≡◌}
+use Rattle.std.specs.Iterator.Adapters.{enumerate_source, enumerate_count}
+use Rattle.std.specs.Slice.Iter.{chunks_rest, chunks_size}
 use Rattle.codec.specs.Codec.{Begun}
 use Rattle.codec.proofs.text.read.Given as goal
 
-abbrev pub invariant-loop-at : goal.invariant-loop-at
-invariant-loop-at l = (l.at ≡ 17 * l.n) × (l.at ≤ length l.text) × Begun l.text l.initial.frames l.frames l.n (drop l.at l.text)
-
-abbrev pub decreases-loop-at : goal.decreases-loop-at
-decreases-loop-at l = length l.text - l.at
+-- as many lines as were counted were read, and their rest is still to come
+abbrev pub invariant-loop-n : goal.invariant-loop-n
+invariant-loop-n l =
+    goal.iterator-loop-n.can_next l.n-iterator
+    × goal.iterator-loop-n.is_finite l.n-iterator
+    × (chunks_size (enumerate_source l.n-iterator) ≡ 17)
+    × Begun l.text l.initial.frames l.frames (enumerate_count l.n-iterator) (chunks_rest (enumerate_source l.n-iterator))
