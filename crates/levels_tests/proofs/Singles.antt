@@ -1,8 +1,9 @@
 -- The calls on a store with room for one entry.
-use Rattle.std.proofs.Common.{◌≡◌, ℕ, zero, suc, ◌+◌, ◌-◌, ◌<◌, ◌≤◌, Bool, true, false, cond, eqb, ltb, List, [], ◌∷◌, length, is_some, Some, None, Option, sym, refl, ap, ◌∙◌, add-one, arith, le-ltb, lt-ltb, eq-eqb, ne_eqb}
-use Rattle.levels.specs.declared.refusal.Refusal.TheVariants.{TooDeep, Repeated, Full}
+use Rattle.std.proofs.Common.{◌≡◌, ℕ, zero, suc, ◌+◌, ◌-◌, ◌<◌, ◌≤◌, Bool, true, false, cond, eqb, ltb, List, [], ◌∷◌, length, is_some, Some, None, Option, sym, refl, ap, ◌∙◌, add-one, arith, le-ltb, lt-ltb}
+use Rattle.levels.specs.declared.refusal.Refusal.TheVariants.{TooDeep, NoLevel, Repeated, Full}
+use Rattle.levels.specs.declared.refusal.Refusal.{Refusal}
 use Rattle.levels.specs.Refusals.{unless}
-use Rattle.levels.specs.Store.{looked, stands, standing, or_else, entered, enter_refused, left, leave_refused, declared, declare_refused, added}
+use Rattle.levels.specs.Store.{Store, with_levels, looked, stands, standing, or_else, entered, enter_refused, left, leave_refused, declared, declare_refused, added}
 use Rattle.levels_tests.specs.Single.{empties, held_levels, single, depth_of}
 
 module _ {V : Type 0} where
@@ -22,32 +23,13 @@ module _ {V : Type 0} where
   pub looked_none : (u l k : ℕ) → None ≡ looked (single {V = V} u l None).levels k
   looked_none u l k = sym (looked_empties u [] k)
 
-  looked_held : (u l k n : ℕ) (v : V) → looked (single u l (Some (n, v))).levels k ≡ cond (eqb n k) (Some v) None
+  pub looked_held : (u l k n : ℕ) (v : V) → looked (single u l (Some (n, v))).levels k ≡ cond (eqb n k) (Some v) None
   looked_held u l k n v =
       looked_empties u (held_levels l (Some (n, v))) k ∙ ap (or_else (cond (eqb n k) (Some v) None)) (looked_empties l [] k) ∙ by (eqb n k)
     where
       by : (b : Bool) → or_else (cond b (Some v) None) None ≡ cond b (Some v) None
       by true = refl
       by false = refl
-
-  pub looked_same : (u l k n : ℕ) (v : V) → n ≡ k → Some v ≡ looked (single u l (Some (n, v))).levels k
-  looked_same u l k n v e = sym (looked_held u l k n v ∙ ap (λ b. cond b (Some v) None) (eq-eqb n k e))
-
-  pub looked_other : (u l k n : ℕ) (v : V) → (n ≡ k → ⊥) → None ≡ looked (single u l (Some (n, v))).levels k
-  looked_other u l k n v e = sym (looked_held u l k n v ∙ ap (λ b. cond b (Some v) None) (ne_eqb n k e))
-
-  -- the top level is empty where it is not the entry's
-  pub stands_empty : (u l k : ℕ) (h : Option (ℕ × V)) → 0 < u → false ≡ stands (single u l h).levels k
-  stands_empty zero l k h p = absurd (omega arith)
-  stands_empty (suc u) l k h p = refl
-
-  pub stands_other : (u l k n : ℕ) (v : V) → u ≡ 0 → (n ≡ k → ⊥) → false ≡ stands (single u l (Some (n, v))).levels k
-  stands_other u l k n v z e =
-      sym (ap (λ u. stands (single u l (Some (n, v))).levels k) z ∙ ap (λ b. is_some (cond b (Some v) None)) (ne_eqb n k e))
-
-  pub stands_bare : (u l k : ℕ) (h : Option (ℕ × V)) → h ≡ None → false ≡ stands (single u l h).levels k
-  stands_bare zero l k h e = sym (ap (λ h. stands (single 0 l h).levels k) e)
-  stands_bare (suc u) l k h e = refl
 
   depth_is : (u l : ℕ) (h : Option (ℕ × V)) → length (single u l h).levels ≡ depth_of u l h
   depth_is u l None = let r = length_empties u [] in omega arith
@@ -101,8 +83,26 @@ module _ {V : Type 0} where
       let n : 1 ≤ 0 + standing (empties u (held_levels l (Some e))) = omega arith in
       ap (λ b. cond b None (Some Full)) (le-ltb _ 1 n)
 
-  pub full_refused : (u l k : ℕ) (e : ℕ × V) → false ≡ stands (single u l (Some e)).levels k → Some Full ≡ declare_refused (single u l (Some e)) k
-  full_refused u l k e h = sym (full u l k e h)
+  pub full_of : (u l k : ℕ) (h : Option (ℕ × V)) → is_some h ≡ true → false ≡ stands (single u l h).levels k → declare_refused (single u l h) k ≡ Some Full
+  full_of u l k None i s = cc
+  full_of u l k (Some e) i s = full u l k e s
 
-  pub full_left : (u l k : ℕ) (v : V) (e : ℕ × V) → false ≡ stands (single u l (Some e)).levels k → single u l (Some e) ≡ declared (single u l (Some e)) k v
-  full_left u l k v e h = sym (ap (λ o. unless o (record { capacity = 1; levels = added (single u l (Some e)).levels (k, v) }) (single u l (Some e))) (full u l k e h))
+  -- a name that stands, and no level
+  pub repeated : (u l k : ℕ) (h : Option (ℕ × V)) → true ≡ stands (single u l h).levels k → declare_refused (single u l h) k ≡ Some Repeated
+  repeated zero l k None s = cc
+  repeated zero l k (Some e) s = ap (λ b. cond b (Some Repeated) (cond (ltb (1 + standing (empties {V = V} l [])) 1) None (Some Full))) (sym s)
+  repeated (suc u) l k h s = cc
+
+  pub no_level : (u l k : ℕ) (h : Option (ℕ × V)) → u ≡ 0 → is_some h ≡ false → declare_refused (single u l h) k ≡ Some NoLevel
+  no_level zero l k None z i = refl
+  no_level zero l k (Some e) z i = cc
+  no_level (suc u) l k h z i = absurd (omega arith)
+
+  -- a refused declaration leaves what was
+  pub refused_same : (s : Store V) (k : ℕ) (v : V) (e : Refusal) → declare_refused s k ≡ Some e → s ≡ declared s k v
+  refused_same s k v e r = sym (ap (λ o. unless o (with_levels s (added s.levels (k, v))) s) r)
+
+  -- no entry stands
+  pub none_of : (h : Option (ℕ × V)) → is_some h ≡ false → h ≡ None
+  none_of None i = refl
+  none_of (Some e) i = cc

@@ -48,7 +48,7 @@ impl<V: Copy> Looking<V> for Single<V> {
     }
 
     fn here(&self, name: u16) -> bool {
-        self.upper == 0 && self.held.is_some_and(|(n, _)| n == name)
+        matches!(self.held, Some((n, _)) if self.upper == 0 && n == name)
     }
 }
 
@@ -83,7 +83,10 @@ impl<V: Copy> Declaring<V> for Single<V> {
         if self.held.is_some() {
             return Err(Refusal::Full);
         }
-        self.lower = self.upper.checked_sub(1).ok_or(Refusal::NoLevel)?;
+        if self.upper == 0 {
+            return Err(Refusal::NoLevel);
+        }
+        self.lower = self.upper - 1;
         self.upper = 0;
         self.held = Some((name, value));
         Ok(())

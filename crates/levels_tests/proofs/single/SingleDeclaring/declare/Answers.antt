@@ -1,31 +1,36 @@
-use Rattle.std.proofs.Common.{◌≡◌, ℕ, ◌<◌, false, Some, sym, ap, ◌∙◌, ⊎_elim, arith}
+use Rattle.std.proofs.Common.{◌<◌, sym, ap, ◌∙◌, arith}
+use Rattle.levels.specs.declared.refusal.Refusal.TheVariants.{NoLevel, Repeated, Full}
 use Rattle.levels.specs.Refusals.{answer}
-use Rattle.levels.specs.Store.{stands, declared, declare_refused}
+use Rattle.levels.specs.Store.{declared, declare_refused}
 use Rattle.levels_tests.specs.Single.{single}
-use Rattle.levels_tests.proofs.Singles.{stands_empty, stands_other, full_refused, full_left, declare_made, declared_made}
+use Rattle.levels_tests.proofs.Singles.{repeated, full_of, no_level, refused_same, none_of, declare_made, declared_made}
 use Rattle.levels_tests.proofs.single.SingleDeclaring.declare.Goals as goal
 
-pub returns-else-self-eq0 : goal.returns-else-self-eq0
-returns-else-self-eq0 g c =
+pub returns-then-here : goal.returns-then-here
+returns-then-here g c =
     let p = c.args.self.now in
-    let e : ℕ × g.row.V.Denot = (c.in-Some.n, c.in-Some.field-0-1) in
-    let k = c.args.name in
-    let s : false ≡ stands (single p.upper p.lower (Some e)).levels k =
-    ⊎_elim
-    (λ (h : (p.upper ≡ 0) × (c.in-Some.n ≡ k → ⊥)). stands_other p.upper p.lower k c.in-Some.n c.in-Some.field-0-1 h.0 h.1)
-    (λ (h : p.upper ≡ 0 → ⊥). stands_empty p.upper p.lower k (Some e) (omega (arith, h)))
-    c.else-self-eq0.either in
-    record {
-      result = ap answer (full_refused p.upper p.lower k e s) ∙ sym (ap (λ h. answer (declare_refused (single p.upper p.lower h) k)) c.in-Some.is);
-      leaves = ap (single p.upper p.lower) c.in-Some.is ∙ full_left p.upper p.lower k c.args.value e s ∙ sym (ap (λ h. declared (single p.upper p.lower h) k c.args.value) c.in-Some.is);
-    }
+    let r = repeated p.upper p.lower c.args.name p.held (sym c.if-here.true ∙ c.here.ensures.result) in
+    record { result = sym (ap answer r); leaves = refused_same (single p.upper p.lower p.held) c.args.name c.args.value Repeated r }
 
-pub returns-else-self-eq0-2 : goal.returns-else-self-eq0-2
-returns-else-self-eq0-2 g c =
+pub returns-then-is_some : goal.returns-then-is_some
+returns-then-is_some g c =
+    let p = c.args.self.now in
+    let r = full_of p.upper p.lower c.args.name p.held (sym c.is_some.ensures ∙ c.if-is_some.true) (sym c.if-here.false ∙ c.here.ensures.result) in
+    record { result = sym (ap answer r); leaves = refused_same (single p.upper p.lower p.held) c.args.name c.args.value Full r }
+
+pub returns-then-self-eq0 : goal.returns-then-self-eq0
+returns-then-self-eq0 g c =
+    let p = c.args.self.now in
+    let r = no_level p.upper p.lower c.args.name p.held c.if-self-eq0.true (sym c.is_some.ensures ∙ c.if-is_some.false) in
+    record { result = sym (ap answer r); leaves = refused_same (single p.upper p.lower p.held) c.args.name c.args.value NoLevel r }
+
+pub returns : goal.returns
+returns g c =
     let p = c.args.self.now in
     let k = c.args.name in
-    let h : 0 < p.upper = omega (arith, c.if-self-eq0-2.false) in
+    let low : 0 < p.upper = omega (arith, c.if-self-eq0.false) in
+    let bare = none_of p.held (sym c.is_some.ensures ∙ c.if-is_some.false) in
     record {
-      result = ap answer (declare_made p.upper p.lower k c.args.value h) ∙ sym (ap (λ h. answer (declare_refused (single p.upper p.lower h) k)) c.in-None.is);
-      leaves = declared_made p.upper p.lower k c.args.value h ∙ sym (ap (λ h. declared (single p.upper p.lower h) k c.args.value) c.in-None.is);
+      result = ap answer (declare_made p.upper p.lower k c.args.value low) ∙ sym (ap (λ h. answer (declare_refused (single p.upper p.lower h) k)) bare);
+      leaves = declared_made p.upper p.lower k c.args.value low ∙ sym (ap (λ h. declared (single p.upper p.lower h) k c.args.value) bare);
     }

@@ -1,20 +1,24 @@
-use Rattle.std.proofs.Common.{sym, ap, ◌∙◌}
+use Rattle.std.proofs.Common.{◌≡◌, Bool, true, false, cond, eqb, Some, None, sym, refl, ap, ◌∙◌}
+use Rattle.std.specs.Bool.{then_some}
 use Rattle.levels.specs.Store.{looked}
 use Rattle.levels_tests.specs.Single.{single}
-use Rattle.levels_tests.proofs.Singles.{looked_none, looked_same, looked_other}
+use Rattle.levels_tests.proofs.Singles.{looked_none, looked_held}
 use Rattle.levels_tests.proofs.single.SingleLooking.look.Goals as goal
 
-pub returns-then-n-name : goal.returns-then-n-name
-returns-then-n-name g c =
-    let p = c.args.self.now in
-    record { result = looked_same p.upper p.lower c.args.name c.in-Some.n c.in-Some.v c.if-n-name.true ∙ sym (ap (λ h. looked (single p.upper p.lower h).levels c.args.name) c.in-Some.is) }
+then_is : {V : Type 0} (b : Bool) (v : V) → then_some b v ≡ cond b (Some v) None
+then_is true v = refl
+then_is false v = refl
 
-pub returns-else-n-name : goal.returns-else-n-name
-returns-else-n-name g c =
+pub returns-in_err-n : goal.returns-in_err-n
+returns-in_err-n g c =
     let p = c.args.self.now in
-    record { result = looked_other p.upper p.lower c.args.name c.in-Some.n c.in-Some.v c.if-n-name.false ∙ sym (ap (λ h. looked (single p.upper p.lower h).levels c.args.name) c.in-Some.is) }
+    record { result = c.from_residual.ensures ∙ looked_none p.upper p.lower c.args.name ∙ sym (ap (λ h. looked (single p.upper p.lower h).levels c.args.name) c.in_err-n.was) }
 
-pub returns-in-None : goal.returns-in-None
-returns-in-None g c =
+pub returns : goal.returns
+returns g c =
     let p = c.args.self.now in
-    record { result = looked_none p.upper p.lower c.args.name ∙ sym (ap (λ h. looked (single p.upper p.lower h).levels c.args.name) c.in-None.is) }
+    record {
+      result = c.then_some.ensures ∙ then_is (eqb c.in_ok-n.n c.args.name) c.in_ok-n.value
+          ∙ sym (looked_held p.upper p.lower c.args.name c.in_ok-n.n c.in_ok-n.value)
+          ∙ sym (ap (λ h. looked (single p.upper p.lower h).levels c.args.name) c.in_ok-n.was);
+    }
