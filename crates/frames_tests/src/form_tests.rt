@@ -1,6 +1,6 @@
 // The form of a sheet: what is accepted, and what is refused where.
 use drafts::*;
-use frames::{Formed, Frame, Type, form};
+use frames::{Fault, Formed, Frame, Parameter, Type, form};
 
 mod drafts;
 mod fields;
@@ -11,22 +11,21 @@ const PARAM: Frame = Frame {
     kind: 0x02,
     t: 2,
     name: 7,
-    load: 0,
+    ..Frame::BLANK
 };
 
 const NAME: Frame = Frame {
     kind: 0x12,
-    t: 0,
     name: 8,
-    load: 0,
+    ..Frame::BLANK
 };
 
 // A call with two arguments.
 const CALL: Frame = Frame {
     kind: 0x26,
-    t: 0,
     name: 1,
     load: 2,
+    ..Frame::BLANK
 };
 
 // HEAD and DECL for so many parameters and names.
@@ -43,50 +42,71 @@ fn decl_of(n: u32) -> Frame {
     Frame {
         kind: 0x11,
         t: 2,
-        name: 0,
         load: n,
+        ..Frame::BLANK
     }
 }
 
 #[test]
 fn the_shortest_lists(rt: HostRuntime) {
-    assert!(rt; told(&[], 25, 0));
-    assert!(rt; told(&[HEAD], 25, 1));
-    assert!(rt; told(&[END], 23, 0));
-    assert!(rt; told(&[HEAD, END], 0, 2));
+    assert_eq!(rt; formed(&[]), Err(Fault::NoEnd(0)));
+    assert_eq!(rt; formed(&[HEAD]), Err(Fault::NoEnd(1)));
+    assert_eq!(rt; formed(&[END]), Err(Fault::NotAllowed(0)));
+    assert_eq!(rt; formed(&[HEAD, END]), Ok(2));
 }
 
 #[test]
 fn nothing_stands_after_the_end(rt: HostRuntime) {
-    assert!(rt; told(&[HEAD, END, END], 26, 2));
-    assert!(rt; told(&[HEAD, END, UNKNOWN], 26, 2));
-    assert!(rt; told(&[HEAD, END, head_of(17)], 26, 2));
+    assert_eq!(rt; formed(&[HEAD, END, END]), Err(Fault::AfterEnd(2)));
+    assert_eq!(rt; formed(&[HEAD, END, UNKNOWN]), Err(Fault::AfterEnd(2)));
+    assert_eq!(rt; formed(&[HEAD, END, head_of(17)]), Err(Fault::AfterEnd(2)));
 }
 
 #[test]
 fn the_longest_sheet(rt: HostRuntime) {
-    assert!(rt; nested(254, b"\x14", b"", 0, b"", 0, 256));
-    assert!(rt; nested(255, b"\x14", b"", 0, b"", 20, 256));
-    assert!(rt; nested(256, b"\xFF", b"", 0, b"", 20, 256));
+    assert_eq!(rt; nested(254, b"\x14", b"", 0, b""), Ok(256));
+    assert_eq!(rt; nested(255, b"\x14", b"", 0, b""), Err(Fault::TooLong));
+    assert_eq!(rt; nested(256, b"\xFF", b"", 0, b""), Err(Fault::TooLong));
 }
 
 #[test]
 fn parameters_and_names_stand_where_counted(rt: HostRuntime) {
-    assert!(rt; told(&[head_of(2), PARAM, END], 23, 2));
-    assert!(rt; told(&[head_of(1), PARAM, PARAM, END], 23, 2));
-    assert!(rt; told(&[HEAD, decl_of(2), NAME, END], 23, 3));
-    assert!(rt; told(&[HEAD, decl_of(1), NAME, NAME, END], 23, 3));
-    assert!(rt; told(&[HEAD, decl_of(2), NAME, NAME, END], 0, 5));
+    assert_eq!(rt;
+        formed(&[head_of(2), PARAM, END]),
+        Err(Fault::NotAllowed(2))
+    );
+    assert_eq!(rt;
+        formed(&[head_of(1), PARAM, PARAM, END]),
+        Err(Fault::NotAllowed(2))
+    );
+    assert_eq!(rt;
+        formed(&[HEAD, decl_of(2), NAME, END]),
+        Err(Fault::NotAllowed(3))
+    );
+    assert_eq!(rt;
+        formed(&[HEAD, decl_of(1), NAME, NAME, END]),
+        Err(Fault::NotAllowed(3))
+    );
+    assert_eq!(rt; formed(&[HEAD, decl_of(2), NAME, NAME, END]), Ok(5));
 }
 
 #[test]
 fn operands_are_counted(rt: HostRuntime) {
-    assert!(rt; told(&[HEAD, TRUE, PLUS, DO, END], 23, 2));
-    assert!(rt; told(&[HEAD, TRUE, TRUE, DO, END], 23, 3));
-    assert!(rt; told(&[HEAD, DO, END], 23, 1));
-    assert!(rt; told(&[HEAD, TRUE, RETV, END], 23, 2));
-    assert!(rt; told(&[HEAD, TRUE, CALL, DO, END], 23, 2));
-    assert!(rt; told(&[HEAD, TRUE, TRUE, CALL, DO, END], 0, 6));
+    assert_eq!(rt;
+        formed(&[HEAD, TRUE, PLUS, DO, END]),
+        Err(Fault::NotAllowed(2))
+    );
+    assert_eq!(rt;
+        formed(&[HEAD, TRUE, TRUE, DO, END]),
+        Err(Fault::NotAllowed(3))
+    );
+    assert_eq!(rt; formed(&[HEAD, DO, END]), Err(Fault::NotAllowed(1)));
+    assert_eq!(rt; formed(&[HEAD, TRUE, RETV, END]), Err(Fault::NotAllowed(2)));
+    assert_eq!(rt;
+        formed(&[HEAD, TRUE, CALL, DO, END]),
+        Err(Fault::NotAllowed(2))
+    );
+    assert_eq!(rt; formed(&[HEAD, TRUE, TRUE, CALL, DO, END]), Ok(6));
 }
 
 #[test]
@@ -98,22 +118,19 @@ fn a_refusal_leaves_the_sheet(rt: HostRuntime) {
     assert!(rt; sheet.count() == 3 && sheet.name() == 500 && sheet.returns() == Type::String);
 }
 
-// Whether the sheet has that one parameter.
-fn has_param(sheet: &Formed, t: u8, name: u16) -> bool {
-    match sheet.param(0) {
-        None => false,
-        Some(p) => sheet.param_count() == 1
-            && u8::from(p.t) == t
-            && p.name == name
-            && sheet.param(1).is_none(),
-    }
-}
-
 #[test]
 fn a_sheet_tells_its_parameters(rt: HostRuntime) {
     let mut sheet = Formed::new();
     assert!(rt; form(&[head_of(1), PARAM, END], &mut sheet).is_ok());
-    assert!(rt; has_param(&sheet, 2, 7));
+    assert_eq!(rt; sheet.param_count(), 1);
+    assert_eq!(rt;
+        sheet.param(0),
+        Some(Parameter {
+            t: Type::Int,
+            name: 7,
+        })
+    );
+    assert_eq!(rt; sheet.param(1), None);
 }
 
 #[test]

@@ -1,6 +1,7 @@
 // Reading and writing text.
+ghost use Rattle.std.specs.Prelude.{◌≤◌};
+
 use frames::{Diagnostic, Frame, read, write};
-use std::test::Fail;
 
 // A frame with another digit at every place of its text.
 const SAMPLE: Frame = Frame {
@@ -12,55 +13,71 @@ const SAMPLE: Frame = Frame {
 
 const LINE: &[u8; 17] = b"0123456789ABCDEF\n";
 
-// Whether reading the text into that many frames is refused with that number at that place.
-fn refused(text: &[u8], room: usize, number: u8, place: usize) -> bool {
+// How many frames are read of the text into so many, or the fault as a host reports it.
+fn read_into(room: usize, text: &[u8]) -> Result<usize, Diagnostic>
+    requires { room ≤ 257 }
+{
     let mut area = [Frame::BLANK; 257];
-    if room > 257 {
-        return false;
-    }
-    match read(text, &mut area[0..room]) {
-        Ok(_) => false,
-        Err(e) => {
-            let d = Diagnostic::from(e);
-            d.number == number && d.layer == 1 && d.sheet == 255 && d.place == place
-        }
-    }
+    read(text, &mut area[..room]).map_err(Diagnostic::from)
 }
 
-// Whether the text is read as so many frames.
-fn accepted(text: &[u8], room: usize, count: usize) -> bool {
-    let mut area = [Frame::BLANK; 257];
-    if room > 257 {
-        return false;
-    }
-    match read(text, &mut area[0..room]) {
-        Ok(n) => n == count,
-        Err(_) => false,
+// The report of a fault of the text.
+fn fault(number: u8, place: usize) -> Diagnostic {
+    Diagnostic {
+        number,
+        layer: 1,
+        sheet: 255,
+        place,
     }
 }
 
 #[test]
 fn texts_that_are_read(rt: HostRuntime) {
-    assert!(rt; accepted(b"", 0, 0));
-    assert!(rt; accepted(b"", 257, 0));
-    assert!(rt; accepted(LINE, 1, 1));
-    assert!(rt; accepted(b"FFFFFFFFFFFFFFFF\n0000000000000000\n", 2, 2));
+    assert_eq!(rt; read_into(0, b""), Ok(0));
+    assert_eq!(rt; read_into(257, b""), Ok(0));
+    assert_eq!(rt; read_into(1, LINE), Ok(1));
+    assert_eq!(rt;
+        read_into(2, b"FFFFFFFFFFFFFFFF\n0000000000000000\n"),
+        Ok(2)
+    );
 }
 
 #[test]
 fn texts_that_are_refused(rt: HostRuntime) {
-    assert!(rt; refused(b"0", 1, 11, 0), "one byte");
-    assert!(rt; refused(b"0123456789ABCDEF", 1, 11, 0), "no last newline");
-    assert!(rt; refused(b"0123456789ABCDEf\n", 1, 11, 0), "lower case");
-    assert!(rt; refused(b"0123456789ABCDEF\r\n", 1, 11, 0), "CRLF");
-    assert!(rt; refused(b"0123456789ABCDEF\n\n", 2, 11, 1), "empty line");
-    assert!(rt;
-        refused(b"0123456789ABCDEFG\n", 1, 11, 0),
+    assert_eq!(rt; read_into(1, b"0"), Err(fault(11, 0)), "one byte");
+    assert_eq!(rt;
+        read_into(1, b"0123456789ABCDEF"),
+        Err(fault(11, 0)),
+        "no last newline"
+    );
+    assert_eq!(rt;
+        read_into(1, b"0123456789ABCDEf\n"),
+        Err(fault(11, 0)),
+        "lower case"
+    );
+    assert_eq!(rt;
+        read_into(1, b"0123456789ABCDEF\r\n"),
+        Err(fault(11, 0)),
+        "CRLF"
+    );
+    assert_eq!(rt;
+        read_into(2, b"0123456789ABCDEF\n\n"),
+        Err(fault(11, 1)),
+        "empty line"
+    );
+    assert_eq!(rt;
+        read_into(1, b"0123456789ABCDEFG\n"),
+        Err(fault(11, 0)),
         "a digit too many"
     );
-    assert!(rt; refused(b"x", 0, 12, 0), "no room for a bad line");
-    assert!(rt;
-        refused(b"0123456789ABCDEF\nzz", 1, 12, 1),
+    assert_eq!(rt;
+        read_into(0, b"x"),
+        Err(fault(12, 0)),
+        "no room for a bad line"
+    );
+    assert_eq!(rt;
+        read_into(1, b"0123456789ABCDEF\nzz"),
+        Err(fault(12, 1)),
         "no room after a good line"
     );
 }
@@ -69,25 +86,18 @@ fn texts_that_are_refused(rt: HostRuntime) {
 fn frames_read_before_a_fault_stay(rt: HostRuntime) {
     let mut area = [Frame::BLANK; 3];
     assert!(rt; read(b"0123456789ABCDEF\nzz", &mut area).is_err());
-    assert!(rt;
-        area[0].kind == 0x01
-            && area[0].t == 0x23
-            && area[0].name == 0x4567
-            && area[0].load == 0x89ABCDEF
-    );
-    assert!(rt; area[1].kind == 0 && area[2].kind == 0);
+    assert_eq!(rt; area, [SAMPLE, Frame::BLANK, Frame::BLANK]);
 }
 
 #[test]
-fn a_full_area_is_asked_before_the_line(rt: HostRuntime) -> Result<(), Fail> {
+fn a_full_area_is_asked_before_the_line(rt: HostRuntime) {
     let mut text = [b'0'; 17 * 257 + 2];
-    for i in 0..257usize {
-        text[17 * i + 16] = 10;
+    for line in text.chunks_exact_mut(17) {
+        line[16] = b'\n';
     }
     text[17 * 257] = b'z';
-    assert!(rt; refused(&text, 257, 12, 257));
-    assert!(rt; accepted(&text[0..17 * 257], 257, 257));
-    Ok(())
+    assert_eq!(rt; read_into(257, &text), Err(fault(12, 257)));
+    assert_eq!(rt; read_into(257, &text[0..17 * 257]), Ok(257));
 }
 
 #[test]
