@@ -1,5 +1,7 @@
 -- From every state of the machine there are frames that end the sheet.
 use Rattle.std.proofs.Common.{◌≡◌, ℕ, zero, suc, ◌+◌, ◌-◌, ◌<◌, ◌≤◌, Bool, true, false, cond, ltb, List, [], ◌∷◌, refl, ap, ◌∙◌, arith}
+use lib.Dec.{eqb-suc-zero}
+use Rattle.std.proofs.Math.Numerals.{sub-one}
 use Rattle.std.proofs.lemmas.Bool.{ltb-true}
 use Rattle.syntax.specs.declared.frame.Frame.{Frame}
 use Rattle.syntax.specs.declared.frame.«Type».TheVariants.{Int, Void}
@@ -9,8 +11,8 @@ use Rattle.syntax.specs.declared.stages.Unfinished.{Unfinished}
 use Rattle.syntax.specs.declared.stages.Unfinished.TheVariants.{Block, Loop, Choice}
 use Rattle.syntax.specs.Trees.{plus}
 use Rattle.syntax.specs.Writing.{HEAD, PARAM, NAME, END, DO, RETV, CLOSE, BINARY, frame_of}
-use Rattle.syntax.specs.Form.{fine, State, at, finish, await_params, await_names, accepted, step, run}
-use Rattle.syntax.proofs.Forgotten.{operand_none, operand_less, not_zero, less_one}
+use Rattle.syntax.specs.Form.{fine, State, at, finish, accepted, step, run}
+use Rattle.syntax.proofs.Forgotten.{operand_none, operand_less}
 use Rattle.syntax.proofs.Exact.{onward, run_more}
 
 -- some frames lead from the state to the end
@@ -72,7 +74,7 @@ completes_params zero u r p = goes_on p (at (Params 0) u r) (frame_of (PARAM Int
 completes_params (suc zero) u r p = goes_on p (at (Params 1) u r) (frame_of (PARAM Int 0)) (at Body u r) refl (completes_body r u (p + 1))
 completes_params (suc (suc n)) u r p =
     goes_on p (at (Params (suc (suc n))) u r) (frame_of (PARAM Int 0)) (at (Params (suc n)) u r)
-    (ap (λ k. fine (await_params k u r)) (less_one (suc n)) ∙ ap (λ b. fine (cond b (at Body u r) (at (Params (suc n)) u r))) (not_zero n)) (completes_params (suc n) u r (p + 1))
+    (rw (sub-one (suc (suc n)), eqb-suc-zero n) refl) (completes_params (suc n) u r (p + 1))
 
 completes_names : (n : ℕ) (u : List Unfinished) (r p : ℕ) → Completes p (at (Names n) u r)
 unfolding step
@@ -80,7 +82,7 @@ completes_names zero u r p = goes_on p (at (Names 0) u r) (frame_of (NAME 0)) (a
 completes_names (suc zero) u r p = goes_on p (at (Names 1) u r) (frame_of (NAME 0)) (at Body (finish u) r) refl (completes_body r (finish u) (p + 1))
 completes_names (suc (suc n)) u r p =
     goes_on p (at (Names (suc (suc n))) u r) (frame_of (NAME 0)) (at (Names (suc n)) u r)
-    (ap (λ k. fine (await_names k u r)) (less_one (suc n)) ∙ ap (λ b. fine (cond b (at Body (finish u) r) (at (Names (suc n)) u r))) (not_zero n)) (completes_names (suc n) u r (p + 1))
+    (rw (sub-one (suc (suc n)), eqb-suc-zero n) refl) (completes_names (suc n) u r (p + 1))
 
 completes_at : (g : Stage) (u : List Unfinished) (r p : ℕ) → Completes p (at g u r)
 unfolding step

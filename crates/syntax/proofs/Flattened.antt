@@ -1,12 +1,13 @@
 -- What was built writes as the tokens that were read.
-use Rattle.std.proofs.Common.{◌≡◌, ℕ, zero, suc, ◌+◌, Bool, true, false, ltb, List, [], ◌∷◌, length, sym, refl, ap, ◌∙◌, ap₂, add-zero, add-suc, suc-add, zero-add, arith}
-use mathlib.Core.Option.{Option, none as nothing, some}
+use Rattle.std.proofs.Common.{◌≡◌, ℕ, zero, suc, ◌+◌, Bool, true, false, ltb, List, [], ◌∷◌, length, sym, refl, ap, ◌∙◌, ap₂, add-zero, add-suc, suc-add, zero-add, Some, None, Option}
 use mathlib.Core.List.{reverse_aux}
+use Rattle.std.specs.Option.{option_and_then}
+use Rattle.std.proofs.Math.ListN.{length-reverse_aux}
 use Rattle.syntax.specs.declared.frame.«Type».{«Type» as Ty}
 use Rattle.syntax.specs.declared.frame.Parameter.{Parameter}
 use Rattle.syntax.specs.Trees.{Expr, call, Exprs, none, more, Stmt, perform, declare, init, return_nothing, return_value, block, while, choose, Stmts, empty, then}
 use Rattle.syntax.specs.Writing.{Token, HEAD, PARAM, END, DO, DECL, NAME, INIT, RETV, RET, OPEN, CLOSE, WHILE, IF, LITERAL, VARIABLE, CALL, UPDATE, BINARY, ASSIGN, count, write_expr, write_exprs, write_names, write_stmt, write_stmts, write_params, write_definition}
-use Rattle.syntax.proofs.Builder.{when, bind, parameter, Open, open_block, open_loop, open_choice, open_half, Heading, heading, Tree, nothing_yet, taking_params, building, taking_names, done, if_nothing, if_params, if_building, if_names, if_none, if_one, add, enter, naming, takes, stmts, closes, ends, if_two, if_top, build, builds}
+use Rattle.syntax.proofs.Builder.{when, parameter, Open, open_block, open_loop, open_choice, open_half, Heading, heading, Tree, nothing_yet, taking_params, building, taking_names, done, if_nothing, if_params, if_building, if_names, if_none, if_one, add, enter, naming, takes, stmts, closes, ends, if_two, if_top, build, builds}
 
 abbrev pub flat_exprs : List Expr → List Token → List Token
 flat_exprs [] r = r
@@ -60,24 +61,20 @@ write_names_reversed : (xs ys : List ℕ) (r : List Token) → write_names (reve
 write_names_reversed [] ys r = refl
 write_names_reversed (x ∷ xs) ys r = write_names_reversed xs (x ∷ ys) r
 
-length_reversed : {A : Type 0} (xs ys : List A) → length (reverse_aux xs ys) ≡ length xs + length ys
-length_reversed [] ys = sym (zero-add (length ys))
-length_reversed (x ∷ xs) ys = length_reversed xs (x ∷ ys) ∙ add-suc (length xs) (length ys) ∙ sym (suc-add (length xs) (length ys))
-
 -- a state that came out, if any, writes as φ says
 abbrev pub Keeps : (List Token → List Token) → Option Tree → Type 0
-Keeps φ nothing = Unit {0}
-Keeps φ (some s) = (r : List Token) → flat s r ≡ φ r
+Keeps φ None = Unit {0}
+Keeps φ (Some s) = (r : List Token) → flat s r ≡ φ r
 
 flat_enter : (ρ : Ty) (f k : ℕ) (ps : List Parameter) (r : List Token) → flat (enter ρ f k ps) r ≡ HEAD ρ f (k + length ps) ∷ flat_params ps r
-flat_enter ρ f zero ps r = ap₂ (λ n q. HEAD ρ f n ∷ q) (length_reversed ps [] ∙ add-zero (length ps) ∙ sym (zero-add (length ps))) (write_params_reversed ps [] r)
+flat_enter ρ f zero ps r = ap₂ (λ n q. HEAD ρ f n ∷ q) (length-reverse_aux ps [] ∙ add-zero (length ps) ∙ sym (zero-add (length ps))) (write_params_reversed ps [] r)
 flat_enter ρ f (suc k) ps r = refl
 
 flat_naming : (H : Heading) (cs : List Open) (d : List Stmt) (t : Ty) (k : ℕ) (xs : List ℕ) (r : List Token)
     → flat (naming H cs d t k xs) r ≡ flat_open H cs d (DECL t (k + length xs) ∷ flat_names xs r)
 flat_naming H cs d t zero xs r =
     flat_add H (declare t (reverse_aux xs [])) cs d r
-    ∙ ap (flat_open H cs d) (ap₂ (λ n q. DECL t n ∷ q) (length_reversed xs [] ∙ add-zero (length xs) ∙ sym (zero-add (length xs))) (write_names_reversed xs [] r))
+    ∙ ap (flat_open H cs d) (ap₂ (λ n q. DECL t n ∷ q) (length-reverse_aux xs [] ∙ add-zero (length xs) ∙ sym (zero-add (length xs))) (write_names_reversed xs [] r))
 flat_naming H cs d t (suc k) xs r = refl
 
 keeps_started : (f : Token) (s : Tree) (o : Option Tree) → Keeps (λ r. f ∷ r) o → Keeps (λ r. flat s (f ∷ r)) (if_nothing s o)
@@ -137,7 +134,7 @@ keeps_when φ false o h = tt
 -- operands taken for a call
 keeps_call : (f : ℕ) (H : Heading) (cs : List Open) (d : List Stmt) (n : ℕ) (es : List Expr) (ar : Exprs) (φ : List Token → List Token)
     → ((r : List Token) → φ r ≡ flat_open H cs d (flat_exprs es (write_exprs ar (CALL f (n + count ar) ∷ r))))
-    → Keeps φ (bind (takes n es ar) λ p. some (building H (call f p.0 ∷ p.1) cs d))
+    → Keeps φ (option_and_then (λ p. Some (building H (call f p.0 ∷ p.1) cs d)) (takes n es ar))
 keeps_call f H cs d zero es ar φ h = λ r. ap (λ n. flat_open H cs d (flat_exprs es (write_exprs ar (CALL f n ∷ r)))) (sym (zero-add (count ar))) ∙ sym (h r)
 keeps_call f H cs d (suc n) [] ar φ h = tt
 keeps_call f H cs d (suc n) (e ∷ es) ar φ h =
@@ -175,16 +172,10 @@ keeps (UPDATE i x) s = keeps_body (UPDATE i x) s _ (λ H es cs d r. refl)
 keeps (BINARY o) s = keeps_body (BINARY o) s _ (λ H es cs d. keeps_two (λ es r. flat_open H cs d (flat_exprs es (BINARY o ∷ r))) es _ (λ a b es r. refl))
 keeps (ASSIGN x) s = keeps_body (ASSIGN x) s _ (λ H es cs d. keeps_last (λ es r. flat_open H cs d (flat_exprs es (ASSIGN x ∷ r))) es _ (λ a es r. refl))
 
-pub some_inj : {A : Type 0} {a b : A} → some a ≡ some b → a ≡ b
-some_inj h = cc
-
-pub none_some : {A C : Type 0} {a : A} → nothing ≡ some a → C
-none_some {A} {C} h = let z : ◌≡◌ {A = ℕ} 0 1 = cc in absurd (omega arith)
-
-pub built : (fs : List Token) (s s' : Tree) → builds fs s ≡ some s' → flat s' [] ≡ flat s fs
-built [] s s' h = ap (λ q. flat q []) (sym (some_inj h))
+pub built : (fs : List Token) (s s' : Tree) → builds fs s ≡ Some s' → flat s' [] ≡ flat s fs
+built [] s s' h = cc
 built (f ∷ fs) s s' h = go (build f s) (keeps f s) h (λ q k. built fs q s' k)
   where
-    go : (o : Option Tree) → Keeps (λ r. flat s (f ∷ r)) o → bind o (λ q. builds fs q) ≡ some s' → ((q : Tree) → builds fs q ≡ some s' → flat s' [] ≡ flat q fs) → flat s' [] ≡ flat s (f ∷ fs)
-    go nothing k h ih = none_some h
-    go (some q) k h ih = ih q h ∙ k fs
+    go : (o : Option Tree) → Keeps (λ r. flat s (f ∷ r)) o → option_and_then (builds fs) o ≡ Some s' → ((q : Tree) → builds fs q ≡ Some s' → flat s' [] ≡ flat q fs) → flat s' [] ≡ flat s (f ∷ fs)
+    go None k h ih = cc
+    go (Some q) k h ih = ih q h ∙ k fs

@@ -1,12 +1,12 @@
 -- The writing of a tree builds that tree.
-use Rattle.std.proofs.Common.{◌≡◌, ℕ, suc, ◌+◌, Bool, true, false, ◌&&◌, ltb, List, [], ◌∷◌, length, sym, refl, ap, ◌∙◌, add-zero, add-suc, suc-add, zero-add}
-use mathlib.Core.Option.{Option, some}
+use Rattle.std.proofs.Common.{◌≡◌, ℕ, suc, ◌+◌, Bool, true, false, ◌&&◌, ltb, List, [], ◌∷◌, length, sym, refl, ap, ◌∙◌, add-zero, add-suc, suc-add, zero-add, Some, Option}
 use mathlib.Core.List.{reverse_aux}
+use Rattle.std.specs.Option.{option_and_then}
 use Rattle.syntax.specs.declared.frame.«Type».{«Type» as Ty}
 use Rattle.syntax.specs.declared.frame.Parameter.{Parameter}
 use Rattle.syntax.specs.Trees.{Expr, literal, variable, update, call, binary, assign, Exprs, none, more, Stmt, perform, declare, init, return_nothing, return_value, block, while, choose, Stmts, empty, then, Definition}
 use Rattle.syntax.specs.Writing.{Token, END, DO, INIT, RET, CLOSE, WHILE, IF, CALL, BINARY, ASSIGN, count, write_expr, write_exprs, write_names, write_stmt, write_stmts, write_params, write_definition}
-use Rattle.syntax.proofs.Builder.{when, bind, Open, open_block, open_loop, open_choice, open_half, Heading, heading, nothing_yet, building, done, add, enter, naming, takes, stmts, builds}
+use Rattle.syntax.proofs.Builder.{when, Open, open_block, open_loop, open_choice, open_half, Heading, heading, nothing_yet, building, done, add, enter, naming, takes, stmts, builds}
 
 -- no more than 32 unfinished together, k of them around the statement
 abbrev mutual
@@ -40,8 +40,8 @@ takes_back : (ar : Exprs) (es : List Expr) (br : Exprs) (m : ℕ) → takes (cou
 takes_back none es br m = rw (zero-add m)
 takes_back (more e ar) es br m = rw (suc-add (count ar) m, ← add-suc (count ar) m) (takes_back ar (e ∷ es) br (suc m))
 
-takes_all : (ar : Exprs) (es : List Expr) → takes (count ar) (pushes ar es) none ≡ some (ar, es)
-takes_all ar es = ap (λ n. takes n (pushes ar es) none) (sym (add-zero (count ar))) ∙ takes_back ar es none 0 ∙ ap (λ x. some (x, es)) (joined_none ar)
+takes_all : (ar : Exprs) (es : List Expr) → takes (count ar) (pushes ar es) none ≡ Some (ar, es)
+takes_all ar es = ap (λ n. takes n (pushes ar es) none) (sym (add-zero (count ar))) ∙ takes_back ar es none 0 ∙ ap (λ x. Some (x, es)) (joined_none ar)
 
 mutual
   builds_expr : (e : Expr) (r : List Token) (H : Heading) (es : List Expr) (cs : List Open) (d : List Stmt)
@@ -68,7 +68,7 @@ builds_params : (ps : List Parameter) (r : List Token) (ρ : Ty) (f : ℕ) (got 
 builds_params [] r ρ f got = refl
 builds_params (p ∷ ps) r ρ f got = builds_params ps r ρ f (p ∷ got)
 
-when_bind : {A B : Type 0} (b : Bool) (a : A) (f : A → Option B) → bind (when b (some a)) f ≡ when b (f a)
+when_bind : {A B : Type 0} (b : Bool) (a : A) (f : A → Option B) → option_and_then f (when b (Some a)) ≡ when b (f a)
 when_bind true a f = refl
 when_bind false a f = refl
 
@@ -153,7 +153,7 @@ mutual
       ∙ rw (length_opened w b, add_sequence H w d b s) (ap (when (shallow (levels w) s)) (builds_stmts ss r H w d (s ∷ b)))
       ∙ when_and (shallow (levels w) s) (shallows (levels w) ss) _
 
-pub build_all : (D : Definition) → builds (write_definition D []) nothing_yet ≡ when (shallows 0 D.body) (some (done D))
+pub build_all : (D : Definition) → builds (write_definition D []) nothing_yet ≡ when (shallows 0 D.body) (Some (done D))
 build_all D =
     builds_params D.params (write_stmts D.body (END ∷ [])) D.returns D.name []
     ∙ builds_stmts D.body (END ∷ []) (heading D.returns D.name D.params) outer [] []

@@ -9,17 +9,10 @@ use Rattle.syntax.specs.Form.{Answer, fine, refused, Verdict, accepted, State, h
 use Rattle.syntax.specs.Law.{BeginsNone, Stops}
 use Rattle.syntax.proofs.Builder.{nothing_yet, done}
 use Rattle.syntax.proofs.Flattened.{built}
-use Rattle.syntax.proofs.Turns.{clash}
 use Rattle.syntax.proofs.Runs.{forms_long, forms_short}
 use Rattle.syntax.proofs.Exact.{onward, run_more, run_reads, forms_run, within_accepted}
 use Rattle.syntax.proofs.Places.{Placed, placed_step}
 use Rattle.syntax.proofs.Completed.{completes}
-
-number_once : {A : Type 0} {n m p q : ℕ} → ◌≡◌ {A = Answer A} (refused n p) (refused m q) → n ≡ m
-number_once h = cc
-
-place_once : {A : Type 0} {n m p q : ℕ} → ◌≡◌ {A = Answer A} (refused n p) (refused m q) → p ≡ q
-place_once h = cc
 
 -- the run over the frames from place q on halts after k of them
 record Halts (q : ℕ) (s : State) (fs : List Frame) (n p : ℕ) : Type 0 where
@@ -31,15 +24,15 @@ record Halts (q : ℕ) (s : State) (fs : List Frame) (n p : ℕ) : Type 0 where
   not_20 : n ≡ 20 → ⊥
 
 halts_end : (q : ℕ) (s : State) (n p : ℕ) (b : Bool) → cond b accepted (refused 25 q) ≡ refused n p → Halts q s [] n p
-halts_end q s n p true h = clash (sym h)
+halts_end q s n p true h = cc
 halts_end q s n p false h =
-    let e : q ≡ p = place_once h in
-    let m : 25 ≡ n = number_once h in
+    let e : q ≡ p = cc in
+    let m : 25 ≡ n = cc in
     record {
       k = 0;
       place = sym e ∙ sym (add-zero q);
       state = s;
-      leads = λ rest. ap (λ i. run i s rest) e;
+      leads = λ rest. cc;
       fails = λ g. absurd (g (sym m));
       not_20 = λ g. omega arith;
     }
@@ -56,19 +49,19 @@ halts (f ∷ fs) q s n p h = go (step q s f) refl (placed_step q s f) (sym (run_
           k = suc r.k;
           place = r.place ∙ i;
           state = r.state;
-          leads = λ rest. run_more q s f (take r.k fs ++ rest) ∙ ap (onward q (take r.k fs ++ rest)) e ∙ r.leads rest;
-          fails = λ g rest. run_more q s f (take (suc r.k) fs ++ rest) ∙ ap (onward q (take (suc r.k) fs ++ rest)) e ∙ r.fails g rest;
+          leads = λ rest. cc (run_more q s f (take r.k fs ++ rest), r.leads rest);
+          fails = λ g rest. cc (run_more q s f (take (suc r.k) fs ++ rest), r.fails g rest);
           not_20 = r.not_20;
         }
     go (refused m i) e l h ih =
-        let a : i ≡ p = place_once h in
-        let b : m ≡ n = number_once h in
+        let a : i ≡ p = cc in
+        let b : m ≡ n = cc in
         record {
           k = 0;
           place = sym a ∙ l.0 ∙ sym (add-zero q);
           state = s;
-          leads = λ rest. ap (λ j. run j s rest) (sym l.0 ∙ a);
-          fails = λ g rest. run_more q s f rest ∙ ap (onward q rest) e ∙ h;
+          leads = λ rest. cc;
+          fails = λ g rest. cc (run_more q s f rest);
           not_20 = λ g. l.2 (b ∙ g);
         }
 
@@ -97,7 +90,7 @@ stops_short fs n p h =
     record {
       before = λ g. (t.0, (c.0, t.1 ∙ ap (λ j. take j fs ++ c.0) (sym i)));
       after = λ g d rest w e.
-          clash (sym (r.fails g rest) ∙ ap (λ j. run 0 start (take j fs ++ rest)) (sym (add-one p ∙ ap suc i)) ∙ ap (run 0 start) (sym e) ∙ (forms_run (written d) (within_accepted d w)).1);
+          cc (r.fails g rest, add-one p, (forms_run (written d) (within_accepted d w)).1);
     }
 
 pub stops : (fs : List Frame) (n p : ℕ) → forms fs ≡ refused n p → Stops fs n p
@@ -106,6 +99,6 @@ stops fs n p h = elim (cases_lt 256 (length fs)) [ inl lt ↦ long lt | inr ge �
     long : 256 < length fs → Stops fs n p
     long lt =
         let v : ◌≡◌ {A = Verdict} (refused 20 256) (refused n p) = sym (forms_long fs lt) ∙ h in
-        let a : 20 ≡ n = number_once v in
-        let b : 256 ≡ p = place_once v in
+        let a : 20 ≡ n = cc in
+        let b : 256 ≡ p = cc in
         record { before = λ g. absurd (g (sym a)); after = λ g. subst (λ j. BeginsNone (take (j + 1) fs)) b (too_many fs lt) }

@@ -37,6 +37,9 @@ type_coded (suc (suc (suc (suc zero)))) h k = (String, refl)
 type_coded (suc (suc (suc (suc (suc zero))))) h k = (Void, refl)
 type_coded (suc (suc (suc (suc (suc (suc t)))))) h k = absurd (omega arith)
 
+value_coded : (t : ℕ) → In (span 1 4) t → (u : Ty) × (type_code u ≡ t)
+value_coded t h = type_coded t h.0 (omega arith)
+
 no_kind : Unit {0}
 no_kind = tt
 
@@ -56,19 +59,13 @@ head_token : (t n l : ℕ) → Fits (ranges (span 1 5) any_name (span 0 16) Head
 head_token t n l h = let u = type_coded t h.t.0 h.t.1 in (HEAD u.0 n l, frame_equal 0x01 u.1 refl refl)
 
 param_token : (t n l : ℕ) → Fits (ranges (span 1 4) any_name lacking Param) t n l → IsToken 0x02 t n l
-param_token t n l h =
-    let k : t ≤ 5 = omega (arith, h.t.1) in
-    let u = type_coded t h.t.0 k in (PARAM u.0 n, frame_equal 0x02 u.1 refl (lacking_zero l h.load))
+param_token t n l h = let u = value_coded t h.t in (PARAM u.0 n, frame_equal 0x02 u.1 refl (lacking_zero l h.load))
 
 decl_token : (t n l : ℕ) → Fits (ranges (span 1 4) lacking (span 1 16) Decl) t n l → IsToken 0x11 t n l
-decl_token t n l h =
-    let k : t ≤ 5 = omega (arith, h.t.1) in
-    let u = type_coded t h.t.0 k in (DECL u.0 l, frame_equal 0x11 u.1 (lacking_zero n h.name) refl)
+decl_token t n l h = let u = value_coded t h.t in (DECL u.0 l, frame_equal 0x11 u.1 (lacking_zero n h.name) refl)
 
 init_token : (t n l : ℕ) → Fits (ranges (span 1 4) any_name lacking (Statement 1)) t n l → IsToken 0x13 t n l
-init_token t n l h =
-    let k : t ≤ 5 = omega (arith, h.t.1) in
-    let u = type_coded t h.t.0 k in (INIT u.0 n, frame_equal 0x13 u.1 refl (lacking_zero l h.load))
+init_token t n l h = let u = value_coded t h.t in (INIT u.0 n, frame_equal 0x13 u.1 refl (lacking_zero l h.load))
 
 means : AllAt Means 0 rows
 means =

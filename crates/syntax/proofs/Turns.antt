@@ -1,5 +1,5 @@
 -- One step of the machine, by the tests that it makes.
-use Rattle.std.proofs.Common.{◌≡◌, ℕ, Bool, true, false, cond, Some, None, Option, sym, refl, ap, ◌∙◌, arith}
+use Rattle.std.proofs.Common.{◌≡◌, ℕ, Bool, true, false, cond, Some, None, Option, refl, ◌∙◌}
 use Rattle.syntax.specs.declared.frame.Frame.{Frame}
 use Rattle.syntax.specs.declared.kinds.Row.{Row}
 use Rattle.syntax.specs.declared.stages.Stage.{Stage}
@@ -18,14 +18,14 @@ module _ (p : ℕ) (s : State) (f : Frame) where
   module _ (g : has_ended s.stage ≡ false) where
     tested : (o : Option Row) → o ≡ row f.kind → step p s f ≡ known p s f o
     unfolding step
-    tested o e = ap (λ b. cond b (refused 26 p) (known p s f (row f.kind))) g ∙ ap (known p s f) (sym e)
+    tested o e = rw (g, e) refl
 
     pub step_fit : (r : Row) → Some r ≡ row f.kind → fields_fit r f ≡ true → step p s f ≡ allow p r.role f.load s.stage s.stack s.ready
-    step_fit r e h = tested (Some r) e ∙ ap (λ b. cond b (allow p r.role f.load s.stage s.stack s.ready) (refused 22 p)) h
+    step_fit r e h = tested (Some r) e ∙ rw h refl
 
 -- no refusal is an answer
 pub clash : {A C : Type 0} {n p : ℕ} {a : A} → ◌≡◌ {A = Answer A} (refused n p) (fine a) → C
-clash h = let z : ◌≡◌ {A = ℕ} 0 1 = cc in absurd (omega arith)
+clash h = cc
 
 -- a step that went on: the row, and what the frame did
 pub record Went (p : ℕ) (s : State) (f : Frame) (t : State) : Type 0 where
@@ -41,12 +41,12 @@ went p s f t h = first (has_ended s.stage) h
     third : (r : Row) → row f.kind ≡ Some r → (b : Bool) → fields_fit r f ≡ b
         → cond b (allow p r.role f.load s.stage s.stack s.ready) (refused 22 p) ≡ fine t → Went p s f t
     third r e true g h = record { row_of = r; is = e; fits = g; goes = h }
-    third r e false g h = clash h
+    third r e false g h = cc
 
     second : (o : Option Row) → row f.kind ≡ o → known p s f o ≡ fine t → Went p s f t
-    second None e h = clash h
+    second None e h = cc
     second (Some r) e h = third r e (fields_fit r f) refl h
 
     first : (b : Bool) → cond b (refused 26 p) (known p s f (row f.kind)) ≡ fine t → Went p s f t
-    first true h = clash h
+    first true h = cc
     first false h = second (row f.kind) refl h
