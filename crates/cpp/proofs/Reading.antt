@@ -61,7 +61,7 @@ module _ (text : List ℕ) (before : List Frame) (fs : List Frame) (rest : List 
 
 -- something left is not nothing
 no_rest : {C : Type 0} {b : ℕ} {bs : List ℕ} → b ∷ bs ≡ [] → C
-no_rest e = let z : ◌≡◌ {A = ℕ} 0 1 = cc in absurd (omega arith)
+no_rest e = cc
 
 -- an answer that reading gives, as read would
 record Own (text : List ℕ) (before fs : List Frame) (answer : Result (List Frame) Fault) : Type 0 where

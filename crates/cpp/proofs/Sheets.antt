@@ -52,7 +52,7 @@ sheets_same s t e = answers_same (sym (form_again s) ∙ ap form e ∙ form_agai
 
 -- accepted is not refused
 no_verdict : {C : Type 0} {n p : ℕ} → ◌≡◌ {A = Verdict} accepted (refused n p) → C
-no_verdict e = let z : ◌≡◌ {A = ℕ} 0 1 = cc in absurd (omega arith)
+no_verdict e = cc
 
 -- a sheet answered is of accepted frames
 formed_accepted : (fs : List Frame) (v : Verdict) (e : forms fs ≡ v) (s : Sheet) → formed_by fs v e ≡ Ok s → (v ≡ accepted) × (s.frames ≡ fs)

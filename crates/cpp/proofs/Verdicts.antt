@@ -16,7 +16,7 @@ verdict_column (Err (fault v p Γ)) = refl
 -- a good one is of a walk without a fault
 pub good_walk : (r : Result (List ℕ × Levels) Fault) (c : List ℕ) → verdict r ≡ good c → (k : List ℕ) × (Γ : Levels) × (r ≡ Ok (k, Γ))
 good_walk (Ok a) c e = (a.0, a.1, refl)
-good_walk (Err (fault v p Γ)) c e = let z : ◌≡◌ {A = ℕ} 0 1 = cc in absurd (omega arith)
+good_walk (Err (fault v p Γ)) c e = cc
 
 -- and has its column
 pub good_column : (r : Result (List ℕ × Levels) Fault) (c : List ℕ) → verdict r ≡ good c → column_left r ≡ c
@@ -24,7 +24,7 @@ good_column r c e = sym (verdict_column r) ∙ ap column_of e
 
 -- a bad one is of its fault
 pub bad_walk : (r : Result (List ℕ × Levels) Fault) (l n p : ℕ) → verdict r ≡ bad l n p → (4 ≡ l) × ((v : Violation) × (Γ : Levels) × (number v ≡ n) × (r ≡ Err (fault v p Γ)))
-bad_walk (Ok a) l n p e = let z : ◌≡◌ {A = ℕ} 0 1 = cc in absurd (omega arith)
+bad_walk (Ok a) l n p e = cc
 bad_walk (Err (fault v q Γ)) l n p e =
     let i : number v ≡ n = cc in
     let j : q ≡ p = cc in

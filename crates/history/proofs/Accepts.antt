@@ -32,7 +32,7 @@ module _ {Frame Def Text : Type 0} (L : Language Frame Def Text) where
   told_done : (p : Plain L) (r : Result (Act L) Fault) → told L p r ≡ done → (a : Act L) × (r ≡ Ok a)
   unfolding told
   told_done p (Ok a) e = (a, refl)
-  told_done p (Err f) e = let z : ◌≡◌ {A = ℕ} 0 1 = cc in absurd (omega arith)
+  told_done p (Err f) e = cc
 
   -- an accepted put tells that it was done
   done_wrote : (p : Plain L) (r : Result (Act L) Fault) (s : ℕ) (d : Def) → r ≡ Ok (wrote s d) → told L p r ≡ done
@@ -44,7 +44,7 @@ module _ {Frame Def Text : Type 0} (L : Language Frame Def Text) where
   named n x e d i j =
       let f : head_for n (Some (signature L d)) ≡ None = sym (ap (λ y. head_for n (map_some (signature L) y)) i) ∙ e in
       let g : Some (head d) ≡ None = sym (cond-true (eqb (name d) n) (Some (head d)) None (eq-eqb (name d) n j)) ∙ f in
-      let z : ◌≡◌ {A = ℕ} 0 1 = cc in omega arith
+      cc
 
   -- a signature without the name gives it no head
   unnamed : (n : ℕ) (x : Option Def) → ((d : Def) → x ≡ Some d → name d ≡ n → ⊥) → head_for n (map_some (signature L) x) ≡ None
@@ -65,7 +65,7 @@ module _ {Frame Def Text : Type 0} (L : Language Frame Def Text) where
     free_of s n f t d ne i j =
         elim (cases_lt t 32) [
           | inl l ↦ named n (entries t) (f t l ne) d i j
-          | inr l ↦ let z : ◌≡◌ {A = Option Def} None (Some d) = sym ((sound L h).orderly.small t l) ∙ i in let y : ◌≡◌ {A = ℕ} 0 1 = cc in omega arith
+          | inr l ↦ let z : ◌≡◌ {A = Option Def} None (Some d) = sym ((sound L h).orderly.small t l) ∙ i in cc
         ]
 
     -- a free name stands nowhere else
@@ -106,13 +106,13 @@ module _ {Frame Def Text : Type 0} (L : Language Frame Def Text) where
     -- an accepted post was formed
     form_parts : (s fl cl : ℕ) (o : Result Def Fault) → told L (plain L h) (posting L signed s o fl cl) ≡ done → (d : Def) × (o ≡ Ok d) × (told L (plain L h) (putting L signed s d fl cl) ≡ done)
     unfolding told
-    form_parts s fl cl (Err f) e = let z : ◌≡◌ {A = ℕ} 0 1 = cc in absurd (omega arith)
+    form_parts s fl cl (Err f) e = cc
     form_parts s fl cl (Ok d) e = (d, refl, e)
 
     -- and read
     post_parts : (s fl cl : ℕ) (o : Result (List Frame) Fault) → told L (plain L h) (posting L signed s (formed L o) fl cl) ≡ done → (fs : List Frame) × (d : Def) × (o ≡ Ok fs) × (form fs ≡ Ok d) × (told L (plain L h) (putting L signed s d fl cl) ≡ done)
     unfolding told
-    post_parts s fl cl (Err f) e = let z : ◌≡◌ {A = ℕ} 0 1 = cc in absurd (omega arith)
+    post_parts s fl cl (Err f) e = cc
     post_parts s fl cl (Ok fs) e = let w = form_parts s fl cl (form fs) e in (fs, w.0, refl, w.1, w.2)
 
     -- which posts

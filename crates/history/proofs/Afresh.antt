@@ -77,7 +77,7 @@ module _ {Frame Def Text : Type 0} (L : Language Frame Def Text) where
     inside s d i =
         elim (cases_lt s 32) [
           | inl m ↦ m
-          | inr m ↦ let z : ◌≡◌ {A = Option Def} None (Some d) = sym (ok.small s m) ∙ i in let y : ◌≡◌ {A = ℕ} 0 1 = cc in absurd (omega arith)
+          | inr m ↦ let z : ◌≡◌ {A = Option Def} None (Some d) = sym (ok.small s m) ∙ i in cc
         ]
 
     -- a put of an entry on a book with some of the entries is accepted

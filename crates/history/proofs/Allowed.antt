@@ -11,12 +11,12 @@ module _ {Frame Def Text : Type 0} (L : Language Frame Def Text) where
 
   -- an accepted call passed the test
   pub guard_parts : (b : Bool) (f : Fault) (r : Result (Act L) Fault) (a : Act L) → guard L b f r ≡ Ok a → (b ≡ false) × (r ≡ Ok a)
-  guard_parts true f r a e = let z : ◌≡◌ {A = ℕ} 0 1 = cc in absurd (omega arith)
+  guard_parts true f r a e = cc
   guard_parts false f r a e = (refl, e)
 
   -- an accepted put has no parameter twice
   pub unless_repeated_parts : (o : Option ℕ) (s : ℕ) (w a : Act L) → unless_repeated L o s w ≡ Ok a → (o ≡ None) × (w ≡ a)
-  unless_repeated_parts (Some p) s w a e = let z : ◌≡◌ {A = ℕ} 0 1 = cc in absurd (omega arith)
+  unless_repeated_parts (Some p) s w a e = cc
   unless_repeated_parts None s w a e = (refl, cc)
 
   -- what the act of an accepted call needs
@@ -41,7 +41,7 @@ module _ {Frame Def Text : Type 0} (L : Language Frame Def Text) where
 
   -- and an accepted post
   post_allowed : (g : Signatures) (s : ℕ) (r : Result Def Fault) (fl cl : ℕ) (a : Act L) → posting L g s r fl cl ≡ Ok a → Allowed g a
-  post_allowed g s (Err f) fl cl a e = let z : ◌≡◌ {A = ℕ} 0 1 = cc in absurd (omega arith)
+  post_allowed g s (Err f) fl cl a e = cc
   post_allowed g s (Ok d) fl cl a e = put_allowed g s d fl cl a e
 
   -- and every accepted call

@@ -15,7 +15,7 @@ module _ {Frame Def Text : Type 0} (L : Language Frame Def Text) (K : Known L) w
   -- a verdict without a fault has a derivation
   no_fault : (h : Heads) (t : ℕ) (d : Def) (v : Verdict) → judge h d ≡ v → fault_from t v ≡ None → Tree h d
   no_fault h t d (good c) e f = derived h d c e
-  no_fault h t d (bad l n p) e f = let z : ◌≡◌ {A = ℕ} 0 1 = cc in absurd (omega arith)
+  no_fault h t d (bad l n p) e f = cc
 
   -- a sheet without a fault has a derivation
   derives_at : (e : Entries L) (t : ℕ) (d : Def) → e t ≡ Some d → fault_at L (heads_in L e) t (e t) ≡ None → Tree (heads_in L e) d
@@ -29,11 +29,11 @@ module _ {Frame Def Text : Type 0} (L : Language Frame Def Text) (K : Known L) w
 
   -- a sheet's fault is the judge's
   fault_some : (h : Heads) (t : ℕ) (x : Option Def) (f : Fault) → fault_at L h t x ≡ Some f → (d : Def) × (x ≡ Some d) × (f.sheet ≡ t) × (judge h d ≡ bad f.layer f.number f.place)
-  fault_some h t None f e = let z : ◌≡◌ {A = ℕ} 0 1 = cc in absurd (omega arith)
+  fault_some h t None f e = cc
   fault_some h t (Some d) f e = go (judge h d) refl
     where
       go : (v : Verdict) → judge h d ≡ v → (c : Def) × (Some d ≡ Some c) × (f.sheet ≡ t) × (judge h c ≡ bad f.layer f.number f.place)
-      go (good c) i = let z : ◌≡◌ {A = Option Fault} None (Some f) = sym (ap (fault_from t) i) ∙ e in let y : ◌≡◌ {A = ℕ} 0 1 = cc in absurd (omega arith)
+      go (good c) i = let z : ◌≡◌ {A = Option Fault} None (Some f) = sym (ap (fault_from t) i) ∙ e in cc
       go (bad l n p) i =
           let z : ◌≡◌ {A = Option Fault} (Some (record { number = n; layer = l; sheet = t; place = p })) (Some f) = sym (ap (fault_from t) i) ∙ e in
           let y : ◌≡◌ {A = Fault} (record { number = n; layer = l; sheet = t; place = p }) f = cc in
@@ -46,7 +46,7 @@ module _ {Frame Def Text : Type 0} (L : Language Frame Def Text) (K : Known L) w
     (λ e t d i.
         elim (cases_lt t 32) [
           | inl m ↦ derives_at p.entries t d i (lowest_none_at 32 (λ u. fault_at L (heads_in L p.entries) u (p.entries u)) e t m)
-          | inr m ↦ let z : ◌≡◌ {A = Option Def} None (Some d) = sym (ok.orderly.small t m) ∙ i in let y : ◌≡◌ {A = ℕ} 0 1 = cc in absurd (omega arith)
+          | inr m ↦ let z : ◌≡◌ {A = Option Def} None (Some d) = sym (ok.orderly.small t m) ∙ i in cc
         ]),
     λ g. lowest_none 32 (λ t. fault_at L (heads_in L p.entries) t (p.entries t)) (λ t m. fault_none (heads_in L p.entries) t (p.entries t) (g t)),
   )

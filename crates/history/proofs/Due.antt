@@ -28,8 +28,8 @@ module _ {Frame Def Text : Type 0} (L : Language Frame Def Text) where
   -- a call that leaves the sheet behind: it walks it not, and touches it or found it behind
   walk_is : (p : Plain L) (a : Act L) (t : ℕ) → walks L p a t ≡ true → (a ≡ walked) × (due L p t ≡ true)
   unfolding walks
-  walk_is p (wrote s d) t e = let z : ◌≡◌ {A = ℕ} 0 1 = cc in absurd (omega arith)
-  walk_is p (emptied s) t e = let z : ◌≡◌ {A = ℕ} 0 1 = cc in absurd (omega arith)
+  walk_is p (wrote s d) t e = cc
+  walk_is p (emptied s) t e = cc
   walk_is p walked t e = (refl, e)
 
   -- a walk ends it
@@ -52,7 +52,7 @@ module _ {Frame Def Text : Type 0} (L : Language Frame Def Text) where
 
   -- a call that walks not, and touches the sheet or found it behind, leaves it behind
   step_from : (p : Plain L) (r : Result (Act L) Fault) (t : ℕ) → (r ≡ Ok walked → due L p t ≡ true → ⊥) → (((a : Act L) → r ≡ Ok a → touches L p.entries a t ≡ false) → p.since t ≡ true) → since_by p r t ≡ true
-  step_from p (Err f) t nowalk old = old (λ a e. let z : ◌≡◌ {A = ℕ} 0 1 = cc in absurd (omega arith))
+  step_from p (Err f) t nowalk old = old (λ a e. cc)
   step_from p (Ok a) t nowalk old =
       elim (cases_Bool (walks L p a t)) [
         | inl y ↦ let w = walk_is p a t y in absurd (nowalk (ap Ok w.0) w.1)
@@ -66,8 +66,8 @@ module _ {Frame Def Text : Type 0} (L : Language Frame Def Text) where
 
   -- no call comes after none
   pub none_late : (late : History L) (k : Call L) (early : History L) → ◌≡◌ {A = History L} [] (late ++ (k ∷ early)) → ⊥
-  none_late [] k early e = let z : ◌≡◌ {A = ℕ} 0 1 = cc in omega arith
-  none_late (x ∷ late) k early e = let z : ◌≡◌ {A = ℕ} 0 1 = cc in omega arith
+  none_late [] k early e = cc
+  none_late (x ∷ late) k early e = cc
 
   -- a touch after a walk is not the newest call, if that touches nothing
   later : (h : History L) (t : ℕ) (k : Call L) (new : History L) (c : Call L) (old : History L) → h ≡ new ++ (c ∷ old) → ((a : Act L) → outcome L (signatures L (plain L h).entries) k ≡ Ok a → touches L (plain L h).entries a t ≡ false) → (late : History L) (m : Call L) (early : History L) → k ∷ new ≡ late ++ (m ∷ early) → Touched L (early ++ (c ∷ old)) m t → (late' : History L) × (m' : Call L) × (early' : History L) × (new ≡ late' ++ (m' ∷ early')) × Touched L (early' ++ (c ∷ old)) m' t
@@ -82,8 +82,8 @@ module _ {Frame Def Text : Type 0} (L : Language Frame Def Text) where
   -- a marked sheet is behind each of its walks
   pub behind : (h : History L) (t : ℕ) → (plain L h).since t ≡ true → EachBehind h t
   unfolding plain
-  behind [] t e [] c old i w = let z : ◌≡◌ {A = ℕ} 0 1 = cc in absurd (omega arith)
-  behind [] t e (x ∷ new) c old i w = let z : ◌≡◌ {A = ℕ} 0 1 = cc in absurd (omega arith)
+  behind [] t e [] c old i w = cc
+  behind [] t e (x ∷ new) c old i w = cc
   behind (k ∷ h) t e [] c old i w =
       let R : Result (Act L) Fault = outcome L (signatures L (plain L h).entries) k in
       let hc : c ≡ k = cc in

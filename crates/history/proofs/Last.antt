@@ -11,9 +11,9 @@ use Rattle.history.proofs.Due.{EachBehind, none_late, behind, since_of}
 module _ {Frame Def Text : Type 0} (L : Language Frame Def Text) where
   -- whether a call walks a sheet is decided
   walked_cases : (h : History L) (c : Call L) (t : ℕ) (r : Result (Act L) Fault) → result L h c ≡ r → Walked L h c t ⊎ (Walked L h c t → ⊥)
-  walked_cases h c t (Err f) i = inr (λ w. let e : Err f ≡ Ok walked = sym i ∙ w.0 in let z : ◌≡◌ {A = ℕ} 0 1 = cc in omega arith)
-  walked_cases h c t (Ok (wrote s d)) i = inr (λ w. let e : Ok (wrote s d) ≡ Ok walked = sym i ∙ w.0 in let z : ◌≡◌ {A = ℕ} 0 1 = cc in omega arith)
-  walked_cases h c t (Ok (emptied s)) i = inr (λ w. let e : Ok (emptied s) ≡ Ok walked = sym i ∙ w.0 in let z : ◌≡◌ {A = ℕ} 0 1 = cc in omega arith)
+  walked_cases h c t (Err f) i = inr (λ w. let e : Err f ≡ Ok walked = sym i ∙ w.0 in cc)
+  walked_cases h c t (Ok (wrote s d)) i = inr (λ w. let e : Ok (wrote s d) ≡ Ok walked = sym i ∙ w.0 in cc)
+  walked_cases h c t (Ok (emptied s)) i = inr (λ w. let e : Ok (emptied s) ≡ Ok walked = sym i ∙ w.0 in cc)
   walked_cases h c t (Ok walked) i =
       elim (cases_Bool (due L (plain L h) t)) [
         | inl y ↦ inl (i, y)

@@ -23,9 +23,9 @@ module _ {Frame Def Text : Type 0} (L : Language Frame Def Text) (K : Known L) w
   refused_left : (book : State Frame) (r : Result (Act L) Fault) (f : Fault) → working_told L book r ≡ Answer.refused f → working_stepped L book r ≡ book
   unfolding working_told working_stepped
   refused_left book (Err g) f e = refl
-  refused_left book (Ok (wrote s d)) f e = let z : ◌≡◌ {A = ℕ} 0 1 = cc in absurd (omega arith)
-  refused_left book (Ok (emptied s)) f e = let z : ◌≡◌ {A = ℕ} 0 1 = cc in absurd (omega arith)
-  refused_left book (Ok walked) f e = let z : ◌≡◌ {A = ℕ} 0 1 = cc in absurd (omega arith)
+  refused_left book (Ok (wrote s d)) f e = cc
+  refused_left book (Ok (emptied s)) f e = cc
+  refused_left book (Ok walked) f e = cc
 
   -- all that the law says of a book that stands as a history says
   pub lawful : (h : History L) (book : State Frame) → Stands L (plain L h) book → Lawful L h book

@@ -18,7 +18,7 @@ use Rattle.history.proofs.Decides.{derives, decides}
 -- two tests, or the first alone where the second holds
 both_first : {X : Type 0} (a b : Bool) (x : Option X) (u : X) → cond (a && b) x None ≡ Some u → cond a x None ≡ Some u
 both_first true true x u e = e
-both_first true false x u e = let z : ◌≡◌ {A = ℕ} 0 1 = cc in absurd (omega arith)
+both_first true false x u e = cc
 both_first false b x u e = e
 
 -- where the second test holds the first decides

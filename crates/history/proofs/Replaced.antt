@@ -42,7 +42,7 @@ module _ {Frame Def Text : Type 0} (L : Language Frame Def Text) (K : Known L) w
   -- the column of the replaced sheet
   column_here : (h k : Heads) (x y : Option Def) (s : Bool) (c : List ℕ) → c ≡ zeros → NewColumn true x h k y s c
   column_here h k None y s c e f = e
-  column_here h k (Some d) y s c e f = let z : ◌≡◌ {A = ℕ} 0 1 = cc in absurd (omega arith)
+  column_here h k (Some d) y s c e f = cc
 
   -- the record of another sheet
   row_other : (h k : Heads) (o w : Option (ℕ × ℕ)) (x y : Option Def) (s : Bool) (b : List Frame) (r m : Option Record) → b ≡ image_at L y → ((n : ℕ) → differ (h n) (k n) ≡ differ (head_for n o) (head_for n w)) → Row L h y (filled y && s) m → NewRow false x h k y s r (marked L o w b m)
@@ -58,7 +58,7 @@ module _ {Frame Def Text : Type 0} (L : Language Frame Def Text) (K : Known L) w
   -- the record of the replaced sheet
   row_here : (h k : Heads) (x y : Option Def) (s : Bool) (m : Option Record) → NewRow true x h k y s (entry_record x) m
   row_here h k None y s m = refl
-  row_here h k (Some d) y s m = (None, refl, λ f. let z : ◌≡◌ {A = ℕ} 0 1 = cc in absurd (omega arith))
+  row_here h k (Some d) y s m = (None, refl, λ f. cc)
 
   module _ (p : Plain L) (book : State Frame) (s : ℕ) (x : Option Def) (ok : Sound L p) (stands : Stands L p book) (l : s < 32) (free : Free L p.entries s x) where
     -- the heads before

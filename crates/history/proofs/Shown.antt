@@ -18,7 +18,7 @@ type_range n u e =
           (i, omega (arith, i, ltb-true 0 n p.0), omega (arith, i, ltb-true n 6 p.1))
       | inr y ↦
           let f : ◌≡◌ {A = Option ℕ} None (Some u) = sym (cond-false (ltb 0 n && ltb n 6) (Some n) None y) ∙ e in
-          let z : ◌≡◌ {A = ℕ} 0 1 = cc in absurd (omega arith)
+          cc
     ]
 
 -- and each of these numbers is one
@@ -31,7 +31,7 @@ module _ {Frame Def Text : Type 0} (L : Language Frame Def Text) where
 
   -- an answer is shown by the areas
   shown_of : (book : State Frame) (s k u : ℕ) (x : Option Record) → record_at book s ≡ x → type_asked L book s k x ≡ Some u → Shown L book s k u
-  shown_of book s k u None i e = let z : ◌≡◌ {A = ℕ} 0 1 = cc in absurd (omega arith)
+  shown_of book s k u None i e = cc
   shown_of book s k u (Some r) i e =
       let test = ltb k r.size && expression (get_or (part s book.frames) k blank) in
       let found = as_type (get_or (part s book.column) k 0) in
@@ -42,7 +42,7 @@ module _ {Frame Def Text : Type 0} (L : Language Frame Def Text) where
             record { row = r; there = i; below = ltb-true k r.size p.0; spoken = p.1; number = t.0; least = t.1; most = t.2 }
         | inr y ↦
             let f : ◌≡◌ {A = Option ℕ} None (Some u) = sym (cond-false test found None y) ∙ e in
-            let z : ◌≡◌ {A = ℕ} 0 1 = cc in absurd (omega arith)
+            cc
       ]
 
   -- and what they show is answered

@@ -36,7 +36,7 @@ module _ {Frame Def Text : Type 0} (L : Language Frame Def Text) where
 
   -- an emptied sheet has no name
   pub free_none : (e : Entries L) (s : ℕ) → Free e s None
-  free_none e s n f = let z : ◌≡◌ {A = ℕ} 0 1 = cc in absurd (omega arith)
+  free_none e s n f = cc
 
   -- an allowed put's name is free
   pub free_put : (p : Plain L) (s : ℕ) (d : Def) → Sound L p → Allowed L (signatures L p.entries) (wrote s d) → Free p.entries s (Some d)
@@ -91,7 +91,7 @@ module _ {Frame Def Text : Type 0} (L : Language Frame Def Text) where
   sound_after p (wrote s d) ok al =
       sound_updated p (after L p (wrote s d)) s (Some d) ok al.0 (free_put p s d ok al) (λ d' i. subst (λ c. repeated c ≡ None) (cc) al.2) refl refl
   sound_after p (emptied s) ok al =
-      sound_updated p (after L p (emptied s)) s None ok al (free_none p.entries s) (λ d i. let z : ◌≡◌ {A = ℕ} 0 1 = cc in absurd (omega arith)) refl refl
+      sound_updated p (after L p (emptied s)) s None ok al (free_none p.entries s) (λ d i. cc) refl refl
   sound_after p walked ok al =
       record {
         orderly = ok.orderly;
@@ -113,11 +113,11 @@ module _ {Frame Def Text : Type 0} (L : Language Frame Def Text) where
         orderly =
             record {
               small = λ t h. refl;
-              apart = λ t u n a b. let z : ◌≡◌ {A = ℕ} 0 1 = cc in absurd (omega arith);
-              single = λ t d e. let z : ◌≡◌ {A = ℕ} 0 1 = cc in absurd (omega arith);
+              apart = λ t u n a b. cc;
+              single = λ t d e. cc;
             };
         calm = λ y t. refl;
-        clean = λ y. let z : ◌≡◌ {A = ℕ} 0 1 = cc in absurd (omega arith);
+        clean = λ y. cc;
       }
   sound (c ∷ h) =
       sound_stepped (plain L h) (outcome L (signatures L (plain L h).entries) c) (sound h) (λ a e. allowed L (signatures L (plain L h).entries) c a e)

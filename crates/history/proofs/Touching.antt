@@ -11,7 +11,7 @@ use Rattle.history.proofs.Heads.{differ_true, differ_unequal}
 -- a test that holds of one of the listed numbers
 any_among : (p : ℕ → Bool) (ns : List ℕ) → any_of p ns ≡ true → (n : ℕ) × Among n ns × (p n ≡ true)
 unfolding any_of
-any_among p [] e = let z : ◌≡◌ {A = ℕ} 0 1 = cc in absurd (omega arith)
+any_among p [] e = cc
 any_among p (n ∷ ns) e =
     elim (or_cases (p n) (any_of p ns) e) [
       | inl y ↦ (n, inl refl, y)
@@ -30,7 +30,7 @@ module _ {Frame Def Text : Type 0} (L : Language Frame Def Text) where
 
   -- a marked caller calls an altered name
   altered_at : (e k : Entries L) (t : ℕ) (x : Option Def) → e t ≡ x → calls_altered L (heads_in L e) (heads_in L k) x ≡ true → CallsAltered L e k t
-  altered_at e k t None i a = let z : ◌≡◌ {A = ℕ} 0 1 = cc in absurd (omega arith)
+  altered_at e k t None i a = cc
   altered_at e k t (Some d) i a =
       let r = any_among (λ n. differ (heads_in L e n) (heads_in L k n)) (calls (writing d)) a in
       (d, r.0, i, r.1, differ_true (heads_in L e r.0) (heads_in L k r.0) r.2)
@@ -54,7 +54,7 @@ module _ {Frame Def Text : Type 0} (L : Language Frame Def Text) where
         | inr y ↦ inr (altered_words e (entries_after L e (wrote s d)) t y)
       ]
   touch_words e (emptied s) t m = inr (altered_words e (entries_after L e (emptied s)) t m)
-  touch_words e walked t m = let z : ◌≡◌ {A = ℕ} 0 1 = cc in absurd (omega arith)
+  touch_words e walked t m = cc
 
   -- and back
   touch_mark : (e : Entries L) (a : Act L) (t : ℕ) → PutOn L a t ⊎ CallsAltered L e (entries_after L e a) t → touches L e a t ≡ true

@@ -12,24 +12,24 @@ module _ {Frame Def Text : Type 0} (L : Language Frame Def Text) where
   -- only a check without 32 and 39 answers valid
   told_valid : (p : Plain L) (r : Result (Act L) Fault) (n : ℕ) → told L p r ≡ checked n None → (r ≡ Ok walked) × (fault_of L p.entries ≡ None)
   unfolding told
-  told_valid p (Err f) n e = let z : ◌≡◌ {A = ℕ} 0 1 = cc in absurd (omega arith)
-  told_valid p (Ok (wrote s d)) n e = let z : ◌≡◌ {A = ℕ} 0 1 = cc in absurd (omega arith)
-  told_valid p (Ok (emptied s)) n e = let z : ◌≡◌ {A = ℕ} 0 1 = cc in absurd (omega arith)
+  told_valid p (Err f) n e = cc
+  told_valid p (Ok (wrote s d)) n e = cc
+  told_valid p (Ok (emptied s)) n e = cc
   told_valid p (Ok walked) n e = (refl, cc)
 
   -- only a refused call tells a refusal
   told_refused : (p : Plain L) (r : Result (Act L) Fault) (f : Fault) → told L p r ≡ refused f → r ≡ Err f
   unfolding told
   told_refused p (Err g) f e = let i : g ≡ f = cc in ap Err i
-  told_refused p (Ok (wrote s d)) f e = let z : ◌≡◌ {A = ℕ} 0 1 = cc in absurd (omega arith)
-  told_refused p (Ok (emptied s)) f e = let z : ◌≡◌ {A = ℕ} 0 1 = cc in absurd (omega arith)
-  told_refused p (Ok walked) f e = let z : ◌≡◌ {A = ℕ} 0 1 = cc in absurd (omega arith)
+  told_refused p (Ok (wrote s d)) f e = cc
+  told_refused p (Ok (emptied s)) f e = cc
+  told_refused p (Ok walked) f e = cc
 
   -- a valid book after one more call
   valid_step : (h : History L) (c : Call L) → ((plain L h).valid ≡ true → CheckedValid L h) → (r : Result (Act L) Fault) → result L h c ≡ r → (stepped L (plain L h) r).valid ≡ true → CheckedValid L (c ∷ h)
   unfolding stepped after valid_after told
-  valid_step h c ih (Ok (wrote s d)) i e = let z : ◌≡◌ {A = ℕ} 0 1 = cc in absurd (omega arith)
-  valid_step h c ih (Ok (emptied s)) i e = let z : ◌≡◌ {A = ℕ} 0 1 = cc in absurd (omega arith)
+  valid_step h c ih (Ok (wrote s d)) i e = cc
+  valid_step h c ih (Ok (emptied s)) i e = cc
   valid_step h c ih (Ok walked) i e =
       let none = filled_none (fault_of L (plain L h).entries) (not-true (filled (fault_of L (plain L h).entries)) e) in
       just_now (ap (told L (plain L h)) i ∙ ap (checked (count_below 32 (due L (plain L h)))) none)
@@ -38,7 +38,7 @@ module _ {Frame Def Text : Type 0} (L : Language Frame Def Text) where
   -- a valid book's last accepted call answered valid
   valid_to : (h : History L) → (plain L h).valid ≡ true → CheckedValid L h
   unfolding plain
-  valid_to [] e = let z : ◌≡◌ {A = ℕ} 0 1 = cc in absurd (omega arith)
+  valid_to [] e = cc
   valid_to (c ∷ h) e = valid_step h c (valid_to h) (result L h c) refl e
 
   -- and back

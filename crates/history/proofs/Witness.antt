@@ -31,13 +31,13 @@ length_body h (Some c) = length_judged (h c.0) c.1
 
 -- a call found valid has the head wanted
 derived_call : (o : Option ℕ) (w : ℕ) (c : List ℕ) → judge_call o w ≡ good c → o ≡ Some w
-derived_call None w c e = let z : ◌≡◌ {A = ℕ} 0 1 = cc in absurd (omega arith)
+derived_call None w c e = cc
 derived_call (Some x) w c e =
     elim (cases_Bool (eqb x w)) [
       | inl y ↦ ap Some (eqb-true x w y)
       | inr y ↦
           let f : bad 4 54 1 ≡ good c = sym (cond-false (eqb x w) (good call_column) (bad 4 54 1) y) ∙ e in
-          let z : ◌≡◌ {A = ℕ} 0 1 = cc in absurd (omega arith)
+          cc
     ]
 
 -- so what is found valid has a derivation
@@ -52,22 +52,22 @@ judged_call o w i = ap (λ q. judge_call q w) i ∙ cond-true (eqb w w) (good ca
 -- the column of a call has type 2 at place 1 alone
 call_types : (p u : ℕ) → (type_at 2 call_column p ≡ Some u) ↔ ((p ≡ 1) × (u ≡ 2))
 unfolding call_column
-call_types zero u = ((λ e. let z : ◌≡◌ {A = ℕ} 0 1 = cc in absurd (omega arith)), λ q. absurd (omega (arith, q.0)))
+call_types zero u = ((λ e. cc), λ q. absurd (omega (arith, q.0)))
 call_types (suc zero) u = ((λ e. (refl, (let i : 2 ≡ u = cc in sym i))), λ q. ap Some (sym q.1))
 call_types (suc (suc p)) u = (
   (λ e.
       let f : ◌≡◌ {A = Option ℕ} None (Some u) = sym (cond-false (ltb (suc (suc p)) 2) (as_type (get_or call_column (suc (suc p)) 0)) None (le-ltb (suc (suc p)) 2 (omega arith))) ∙ e in
-      let z : ◌≡◌ {A = ℕ} 0 1 = cc in absurd (omega arith)),
+      cc),
   λ q. absurd (omega (arith, q.0)),
 )
 
 -- a column of zeros has no type
 no_types : (p u : ℕ) → type_at 1 zeros p ≡ Some u → ⊥
 unfolding zeros
-no_types zero u e = let z : ◌≡◌ {A = ℕ} 0 1 = cc in omega arith
+no_types zero u e = cc
 no_types (suc p) u e =
     let f : ◌≡◌ {A = Option ℕ} None (Some u) = sym (cond-false (ltb (suc p) 1) (as_type (get_or zeros (suc p) 0)) None (le-ltb (suc p) 1 (omega arith))) ∙ e in
-    let z : ◌≡◌ {A = ℕ} 0 1 = cc in omega arith
+    cc
 
 -- the types are those of the derivation
 judged_body : (h : Heads) (b : Option (ℕ × ℕ)) → Derives h b → (c : List ℕ) × (judge_body h b ≡ good c) × ((p u : ℕ) → (type_at (suc (length (body_frames b))) c p ≡ Some u) ↔ CallTyped b p u)
@@ -90,7 +90,7 @@ ruled_call (Some x) w l n p e =
     elim (cases_Bool (eqb x w)) [
       | inl y ↦
           let f : good call_column ≡ bad l n p = sym (cond-true (eqb x w) (good call_column) (bad 4 54 1) y) ∙ e in
-          let z : ◌≡◌ {A = ℕ} 0 1 = cc in absurd (omega arith)
+          cc
       | inr y ↦
           let f : bad 4 54 1 ≡ bad l n p = sym (cond-false (eqb x w) (good call_column) (bad 4 54 1) y) ∙ e in
           let a : 4 ≡ l = cc in
@@ -101,7 +101,7 @@ ruled_call (Some x) w l n p e =
 
 -- so all faults are
 ruled_body : (h : Heads) (b : Option (ℕ × ℕ)) (l n p : ℕ) → judge_body h b ≡ bad l n p → (l ≡ 4) × (51 ≤ n) × (n ≤ 60) × (p < suc (length (body_frames b)))
-ruled_body h None l n p e = let z : ◌≡◌ {A = ℕ} 0 1 = cc in absurd (omega arith)
+ruled_body h None l n p e = cc
 ruled_body h (Some c) l n p e = ruled_call (h c.0) c.1 l n p e
 
 -- only the head of the name called counts

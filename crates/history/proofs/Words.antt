@@ -40,7 +40,7 @@ lowest_none (suc k) f h = ap₂ or_else (lowest_none k f (λ t l. h t (omega ari
 
 -- no answer of two
 or_else_parts : {X : Type 0} (o w : Option X) → or_else o w ≡ None → (o ≡ None) × (w ≡ None)
-or_else_parts (Some x) w e = let z : ◌≡◌ {A = ℕ} 0 1 = cc in absurd (omega arith)
+or_else_parts (Some x) w e = cc
 or_else_parts None w e = (refl, e)
 
 -- no lowest, so no answer
@@ -73,10 +73,10 @@ some_next k f x ih e None i = (k, omega arith, sym (ap (λ o. or_else o (f k)) i
 -- where the lowest answer comes from
 pub lowest_some : {X : Type 0} (k : ℕ) (f : ℕ → Option X) (x : X) → lowest k f ≡ Some x → (t : ℕ) × (t < k) × (f t ≡ Some x) × ((u : ℕ) → u < t → f u ≡ None)
 unfolding lowest
-lowest_some zero f x e = let z : ◌≡◌ {A = ℕ} 0 1 = cc in absurd (omega arith)
+lowest_some zero f x e = cc
 lowest_some (suc k) f x e = some_next k f x (λ i. lowest_some k f x i) e (lowest k f) refl
 
 -- what is not filled is not there
 pub filled_none : {X : Type 0} (o : Option X) → filled o ≡ false → o ≡ None
-filled_none (Some x) e = let z : ◌≡◌ {A = ℕ} 0 1 = cc in absurd (omega arith)
+filled_none (Some x) e = cc
 filled_none None e = refl

@@ -7,7 +7,7 @@ use Rattle.rules.specs.Rows.{Number, int_number, double_number, Addable, int_add
 use Rattle.rules.specs.Judge.{sum, arithmetic, ordering, equality, logic, row}
 
 pub none_some : {A C : Type 0} {a : A} → None ≡ Some a → C
-none_some h = let z : ◌≡◌ {A = ℕ} 0 1 = cc in absurd (omega arith)
+none_some h = cc
 
 pub somes_same : {A : Type 0} {a b : A} → Some a ≡ Some b → a ≡ b
 somes_same h = cc
