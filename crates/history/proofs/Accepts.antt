@@ -8,18 +8,8 @@ use Rattle.history.specs.Plain.{Plain, plain, told, answer}
 use Rattle.history.specs.Due.{CheckAccepted}
 use Rattle.history.specs.Accepts.{NameFree, Accepts}
 use Rattle.history.proofs.Words.{updated_all, lowest_none}
-use Rattle.history.proofs.Allowed.{guard_parts, unless_repeated_parts, Allowed, put_allowed}
+use Rattle.history.proofs.Allowed.{sized_parts, guard_parts, both_parts, unless_repeated_parts, Allowed, put_allowed}
 use Rattle.history.proofs.Sounds.{sound}
-
--- both lengths pass the test
-sized_true : (fl cl : ℕ) → fl ≡ 8192 → cl ≡ 8192 → not (sized fl cl) ≡ false
-sized_true fl cl a b = ap not (and_from (eqb fl 8192) (eqb cl 8192) (eq-eqb fl 8192 a) (eq-eqb cl 8192 b))
-
--- the test passed gives both lengths
-sized_parts : (fl cl : ℕ) → not (sized fl cl) ≡ false → (fl ≡ 8192) × (cl ≡ 8192)
-sized_parts fl cl e =
-    let p = and_parts (eqb fl 8192) (eqb cl 8192) (not-false (sized fl cl) e) in
-    (eqb-true fl 8192 p.0, eqb-true cl 8192 p.1)
 
 module _ {Frame Def Text : Type 0} (L : Language Frame Def Text) where
   open L use {name, head, repeated, form, reads}
@@ -27,6 +17,10 @@ module _ {Frame Def Text : Type 0} (L : Language Frame Def Text) where
   -- a test that does not hold refuses nothing
   pub guard_passed : (b : Bool) (f : Fault) (r : Result (Act L) Fault) → b ≡ false → guard L b f r ≡ r
   guard_passed b f r e = ap (λ q. guard L q f r) e
+
+  -- a call of a sheet that passes the first two tests
+  pub both_passed : (s fl cl : ℕ) (r : Result (Act L) Fault) → s < 32 → fl ≡ 8192 → cl ≡ 8192 → guard L (ltb 31 s) (refusal 31 s) (guard L (not (sized fl cl)) (refusal 32 s) r) ≡ r
+  both_passed s fl cl r l a b = rw (le-ltb 31 s (omega arith), a, b) refl
 
   -- what was done is an accepted call
   told_done : (p : Plain L) (r : Result (Act L) Fault) → told L p r ≡ done → (a : Act L) × (r ≡ Ok a)
@@ -42,8 +36,8 @@ module _ {Frame Def Text : Type 0} (L : Language Frame Def Text) where
   -- a filled signature has the name
   pub named : (n : ℕ) (x : Option Def) → head_for n (map_some (signature L) x) ≡ None → (d : Def) → x ≡ Some d → name d ≡ n → ⊥
   named n x e d i j =
-      let f : head_for n (Some (signature L d)) ≡ None = sym (ap (λ y. head_for n (map_some (signature L) y)) i) ∙ e in
-      let g : Some (head d) ≡ None = sym (cond-true (eqb (name d) n) (Some (head d)) None (eq-eqb (name d) n j)) ∙ f in
+      let f : head_for n (Some (signature L d)) ≡ None = cc in
+      let g = rw (eq-eqb (name d) n j) at f in
       cc
 
   -- a signature without the name gives it no head
@@ -78,22 +72,15 @@ module _ {Frame Def Text : Type 0} (L : Language Frame Def Text) where
     -- what an accepted put has passed, in words
     put_parts : (s : ℕ) (d : Def) (fl cl : ℕ) (a : Act L) → putting L signed s d fl cl ≡ Ok a → (s < 32) × (fl ≡ 8192) × (cl ≡ 8192) × NameFree L entries s (name d) × (repeated d ≡ None)
     put_parts s d fl cl a e =
-        let p = guard_parts L (ltb 31 s) (refusal 31 s) (guard L (not (sized fl cl)) (refusal 32 s) (guard L (elsewhere L signed s (name d)) (refusal 33 s) (unless_repeated L (repeated d) s (wrote s d)))) a e in
-        let q = guard_parts L (not (sized fl cl)) (refusal 32 s) (guard L (elsewhere L signed s (name d)) (refusal 33 s) (unless_repeated L (repeated d) s (wrote s d))) a p.1 in
-        let r = guard_parts L (elsewhere L signed s (name d)) (refusal 33 s) (unless_repeated L (repeated d) s (wrote s d)) a q.1 in
+        let p = both_parts L s fl cl _ a e in
+        let r = guard_parts L (elsewhere L signed s (name d)) _ _ a p.3 in
         let o = unless_repeated_parts L (repeated d) s (wrote s d) a r.1 in
-        let w = put_allowed L signed s d fl cl a e in
-        let z = sized_parts fl cl q.0 in
-        let v : Allowed L signed (wrote s d) = subst (Allowed L signed) (sym o.1) w in
-        (v.0, z.0, z.1, free_of s (name d) v.1, o.0)
+        let v : Allowed L signed (wrote s d) = subst (Allowed L signed) (sym o.1) (put_allowed L signed s d fl cl a e) in
+        (p.0, p.1, p.2, free_of s (name d) v.1, o.0)
 
     -- and a put that passes all of it is accepted
     put_passed : (s : ℕ) (d : Def) (fl cl : ℕ) → (s < 32) × (fl ≡ 8192) × (cl ≡ 8192) × NameFree L entries s (name d) × (repeated d ≡ None) → putting L signed s d fl cl ≡ Ok (wrote s d)
-    put_passed s d fl cl w =
-        guard_passed (ltb 31 s) (refusal 31 s) (guard L (not (sized fl cl)) (refusal 32 s) (guard L (elsewhere L signed s (name d)) (refusal 33 s) (unless_repeated L (repeated d) s (wrote s d)))) (le-ltb 31 s (omega (arith, w.0)))
-        ∙ guard_passed (not (sized fl cl)) (refusal 32 s) (guard L (elsewhere L signed s (name d)) (refusal 33 s) (unless_repeated L (repeated d) s (wrote s d))) (sized_true fl cl w.1 w.2)
-        ∙ guard_passed (elsewhere L signed s (name d)) (refusal 33 s) (unless_repeated L (repeated d) s (wrote s d)) (nowhere s (name d) w.3)
-        ∙ ap (λ o. unless_repeated L o s (wrote s d)) w.4
+    put_passed s d fl cl w = both_passed s fl cl _ w.0 w.1 w.2 ∙ rw (nowhere s (name d) w.3, w.4) refl
 
     -- which puts
     puts : (s : ℕ) (d : Def) (fl cl : ℕ) → (answer L h (put s d fl cl) ≡ done) ↔ ((s < 32) × (fl ≡ 8192) × (cl ≡ 8192) × NameFree L entries s (name d) × (repeated d ≡ None))
@@ -134,16 +121,11 @@ module _ {Frame Def Text : Type 0} (L : Language Frame Def Text) where
     clears s fl cl = (
       (λ e.
           let a = told_done (plain L h) (clearing L signed s fl cl) e in
-          let p = guard_parts L (ltb 31 s) (refusal 31 s) (guard L (not (sized fl cl)) (refusal 32 s) (guard L (not (filled (signed s))) (refusal 35 s) (Ok (emptied s)))) a.0 a.1 in
-          let q = guard_parts L (not (sized fl cl)) (refusal 32 s) (guard L (not (filled (signed s))) (refusal 35 s) (Ok (emptied s))) a.0 p.1 in
-          let r = guard_parts L (not (filled (signed s))) (refusal 35 s) (Ok (emptied s)) a.0 q.1 in
-          let z = sized_parts fl cl q.0 in
-          (omega (arith, ltb-false 31 s p.0), z.0, z.1, sym (filled_signed (entries s)) ∙ not-false (filled (signed s)) r.0)),
+          let p = both_parts L s fl cl _ a.0 a.1 in
+          let r = guard_parts L (not (filled (signed s))) _ _ a.0 p.3 in
+          (p.0, p.1, p.2, sym (filled_signed (entries s)) ∙ not-false (filled (signed s)) r.0)),
       λ w.
-          ap (told L (plain L h))
-          (guard_passed (ltb 31 s) (refusal 31 s) (guard L (not (sized fl cl)) (refusal 32 s) (guard L (not (filled (signed s))) (refusal 35 s) (Ok (emptied s)))) (le-ltb 31 s (omega (arith, w.0)))
-          ∙ guard_passed (not (sized fl cl)) (refusal 32 s) (guard L (not (filled (signed s))) (refusal 35 s) (Ok (emptied s))) (sized_true fl cl w.1 w.2)
-          ∙ guard_passed (not (filled (signed s))) (refusal 35 s) (Ok (emptied s)) (ap not (filled_signed (entries s) ∙ w.3))),
+          ap (told L (plain L h)) (both_passed s fl cl _ w.0 w.1 w.2 ∙ guard_passed (not (filled (signed s))) (refusal 35 s) (Ok (emptied s)) (ap not (filled_signed (entries s) ∙ w.3))),
     )
 
     -- which checks
@@ -151,14 +133,13 @@ module _ {Frame Def Text : Type 0} (L : Language Frame Def Text) where
     unfolding outcome
     checks fl cl a b = (
       (λ e.
-          let p = guard_parts L (not (sized fl cl)) (refusal 32 255) (guard L (ltb a 256 || ltb b 256) (refusal 39 255) (Ok walked)) walked e in
-          let q = guard_parts L (ltb a 256 || ltb b 256) (refusal 39 255) (Ok walked) walked p.1 in
+          let p = guard_parts L (not (sized fl cl)) _ (guard L (ltb a 256 || ltb b 256) (refusal 39 255) (Ok walked)) walked e in
+          let q = guard_parts L (ltb a 256 || ltb b 256) _ _ walked p.1 in
           let z = sized_parts fl cl p.0 in
           let o = or_parts (ltb a 256) (ltb b 256) q.0 in
           (z.0, z.1, omega (arith, ltb-false a 256 o.0), omega (arith, ltb-false b 256 o.1))),
       λ w.
-          guard_passed (not (sized fl cl)) (refusal 32 255) (guard L (ltb a 256 || ltb b 256) (refusal 39 255) (Ok walked)) (sized_true fl cl w.0 w.1)
-          ∙ guard_passed (ltb a 256 || ltb b 256) (refusal 39 255) (Ok walked) (ap₂ ◌||◌ (le-ltb a 256 w.2) (le-ltb b 256 w.3)),
+          rw (w.0, w.1, le-ltb a 256 w.2, le-ltb b 256 w.3) refl,
     )
 
     -- which calls are accepted after a history

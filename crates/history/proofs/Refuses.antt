@@ -1,5 +1,5 @@
 -- Which fault each refused call tells.
-use Rattle.std.proofs.Common.{◌≡◌, ℕ, ◌<◌, Bool, true, false, not, ◌||◌, ltb, ◌⊎◌, None, Ok, Err, Result, sym, ap, ◌∙◌, inl, inr, arith}
+use Rattle.std.proofs.Common.{◌≡◌, ℕ, ◌<◌, Bool, true, false, not, ◌||◌, ltb, ◌⊎◌, None, Ok, Err, Result, sym, refl, ap, ◌∙◌, inl, inr, arith}
 use Rattle.std.proofs.lemmas.Bool.{cases_Bool, lt-ltb, le-ltb, or_left, or_right}
 use Rattle.history.specs.Words.{updated, lowest, map_some, filled}
 use Rattle.history.specs.Language.{Fault, Signatures, head_for, Language, signature, signatures}
@@ -7,7 +7,7 @@ use Rattle.history.specs.Calls.{refusal, sized, History, Act, Act.wrote, Act.emp
 use Rattle.history.specs.Plain.{Plain, plain, told}
 use Rattle.history.specs.Refuses.{NameTaken, Refuses}
 use Rattle.history.proofs.Words.{updated_other, lowest_none_at, filled_none}
-use Rattle.history.proofs.Accepts.{guard_passed, named, nowhere}
+use Rattle.history.proofs.Accepts.{guard_passed, both_passed, named, nowhere}
 
 module _ {Frame Def Text : Type 0} (L : Language Frame Def Text) where
   open L use {name, head, repeated, form, reads}
@@ -40,10 +40,6 @@ module _ {Frame Def Text : Type 0} (L : Language Frame Def Text) where
         guard_passed L (ltb 31 s) (refusal 31 s) (guard L (not (sized fl cl)) (refusal 32 s) r) (le-ltb 31 s (omega arith))
         ∙ guard_refused (not (sized fl cl)) (refusal 32 s) r (ap not e)
 
-    -- a call that passes both
-    past_both : (s : ℕ) (r : Result (Act L) Fault) → s < 32 → guard L (ltb 31 s) (refusal 31 s) (guard L (not (sized 8192 8192)) (refusal 32 s) r) ≡ r
-    past_both s r l = guard_passed L (ltb 31 s) (refusal 31 s) (guard L (not (sized 8192 8192)) (refusal 32 s) r) (le-ltb 31 s (omega arith))
-
     -- a taken name is found
     taken : (s n : ℕ) → NameTaken L (plain L h).entries s n → elsewhere L signed s n ≡ true
     taken s n w =
@@ -69,10 +65,10 @@ module _ {Frame Def Text : Type 0} (L : Language Frame Def Text) where
           put_32 = λ s d fl cl l e. told_err p (putting L signed s d fl cl) (refusal 32 s) (second_32 s fl cl (names s d) l e);
           put_33 = λ s d l w.
               told_err p (putting L signed s d 8192 8192) (refusal 33 s)
-              (past_both s (names s d) l ∙ guard_refused (elsewhere L signed s (name d)) (refusal 33 s) (unless_repeated L (repeated d) s (wrote s d)) (taken s (name d) w));
+              (both_passed L s 8192 8192 (names s d) l refl refl ∙ guard_refused (elsewhere L signed s (name d)) (refusal 33 s) (unless_repeated L (repeated d) s (wrote s d)) (taken s (name d) w));
           put_34 = λ s d k l free e.
               told_err p (putting L signed s d 8192 8192) (record { number = 34; layer = 3; sheet = s; place = k })
-              (past_both s (names s d) l
+              (both_passed L s 8192 8192 (names s d) l refl refl
               ∙ guard_passed L (elsewhere L signed s (name d)) (refusal 33 s) (unless_repeated L (repeated d) s (wrote s d)) (nowhere L h s (name d) free)
               ∙ ap (λ o. unless_repeated L o s (wrote s d)) e);
           post_read = λ s t room fl cl f e.
@@ -86,7 +82,7 @@ module _ {Frame Def Text : Type 0} (L : Language Frame Def Text) where
           clear_32 = λ s fl cl l e. told_err p (clearing L signed s fl cl) (refusal 32 s) (second_32 s fl cl (guard L (not (filled (signed s))) (refusal 35 s) (Ok (emptied s))) l e);
           clear_35 = λ s l i.
               told_err p (clearing L signed s 8192 8192) (refusal 35 s)
-              (past_both s (guard L (not (filled (signed s))) (refusal 35 s) (Ok (emptied s))) l
+              (both_passed L s 8192 8192 _ l refl refl
               ∙ guard_refused (not (filled (signed s))) (refusal 35 s) (Ok (emptied s)) (ap (λ x. not (filled (map_some (signature L) x))) i));
           check_32 = λ fl cl a b e.
               told_err p (checking L fl cl a b) (refusal 32 255) (guard_refused (not (sized fl cl)) (refusal 32 255) (guard L (ltb a 256 || ltb b 256) (refusal 39 255) (Ok walked)) (ap not e));
