@@ -1,9 +1,9 @@
 -- Which calls the plain book accepts, in words.
-use Rattle.std.proofs.Common.{◌≡◌, ℕ, ◌<◌, ◌≤◌, Bool, true, false, not, ◌||◌, eqb, ltb, ◌↔◌, List, Some, None, Ok, Err, Option, Result, sym, refl, ap, ◌∙◌, subst, ap₂, inl, inr, arith}
-use Rattle.std.proofs.lemmas.Bool.{cond-true, cond-false, cases_lt, eq-eqb, ne_eqb, or_parts, eqb-true, le-ltb, ltb-false, not-false, and_parts, and_from}
+use Rattle.std.proofs.Common.{◌≡◌, ℕ, ◌<◌, ◌≤◌, Bool, true, false, not, ◌||◌, eqb, ltb, ◌↔◌, List, Some, None, Ok, Err, Option, Result, sym, refl, ap, ◌∙◌, subst, inl, inr, arith}
+use Rattle.std.proofs.lemmas.Bool.{cond-false, cases_lt, eq-eqb, ne_eqb, or_parts, le-ltb, ltb-false, not-false}
 use Rattle.history.specs.Words.{updated, map_some, filled}
 use Rattle.history.specs.Language.{Fault, Signatures, head_for, Language, Entries, signature, signatures}
-use Rattle.history.specs.Calls.{refusal, sized, Call.post, Call.put, Call.clear, Call.check, History, Act, Act.wrote, Act.emptied, Act.walked, guard, unless_repeated, elsewhere, putting, formed, posting, clearing, outcome, Answer.done}
+use Rattle.history.specs.Calls.{refusal, sized, Call.post, Call.put, Call.clear, Call.check, History, Act, Act.wrote, Act.emptied, Act.walked, guard, elsewhere, putting, formed, posting, clearing, outcome, Answer.done}
 use Rattle.history.specs.Plain.{Plain, plain, told, answer}
 use Rattle.history.specs.Due.{CheckAccepted}
 use Rattle.history.specs.Accepts.{NameFree, Accepts}
@@ -59,7 +59,7 @@ module _ {Frame Def Text : Type 0} (L : Language Frame Def Text) where
     free_of s n f t d ne i j =
         elim (cases_lt t 32) [
           | inl l ↦ named n (entries t) (f t l ne) d i j
-          | inr l ↦ let z : ◌≡◌ {A = Option Def} None (Some d) = sym ((sound L h).orderly.small t l) ∙ i in cc
+          | inr l ↦ cc ((sound L h).orderly.small t l)
         ]
 
     -- a free name stands nowhere else

@@ -1,6 +1,7 @@
 -- A fresh book that takes the entries again: its puts are accepted, in any order, and it has the same sheets, all due.
 use Rattle.std.proofs.Common.{◌≡◌, ℕ, ◌<◌, Bool, true, false, cond, ◌&&◌, ◌||◌, eqb, List, [], ◌∷◌, Some, None, Ok, Option, sym, refl, ap, ◌∙◌, ap₂, inl, inr, arith}
 use mathlib.Core.Path.{fun_ext}
+use Rattle.std.proofs.Math.Bool.{and-true}
 use Rattle.std.proofs.lemmas.Bool.{cond-true, cases_lt, eq-eqb, cond_both, eqb-true, le-ltb, or_right}
 use Rattle.std.proofs.lemmas.List.{length-replicate}
 use Rattle.history.specs.Words.{updated, count_below, any_of, map_some, filled}
@@ -30,11 +31,6 @@ cond_less false a y e = refl
 cond_filled : {X : Type 0} (x : Option X) → cond (filled x) x None ≡ x
 cond_filled (Some x) = refl
 cond_filled None = refl
-
--- nothing more to hold
-and_true : (b : Bool) → (b && true) ≡ b
-and_true true = refl
-and_true false = refl
 
 module _ {Frame Def Text : Type 0} (L : Language Frame Def Text) where
   open L use {name, head, repeated}
@@ -77,7 +73,7 @@ module _ {Frame Def Text : Type 0} (L : Language Frame Def Text) where
     inside s d i =
         elim (cases_lt s 32) [
           | inl m ↦ m
-          | inr m ↦ let z : ◌≡◌ {A = Option Def} None (Some d) = sym (ok.small s m) ∙ i in cc
+          | inr m ↦ cc (ok.small s m)
         ]
 
     -- a put of an entry on a book with some of the entries is accepted
@@ -153,4 +149,4 @@ module _ {Frame Def Text : Type 0} (L : Language Frame Def Text) where
     -- so each filled sheet is due
     pub all_due : (ss : List ℕ) → Lists L ss e → count_below 32 (due L (plain L (puts_of L e ss))) ≡ count_below 32 (λ t. filled (e t))
     all_due ss all =
-        ap (count_below 32) (fun_ext (λ t. ap₂ ◌&&◌ (ap (λ f. filled (f t)) (same_sheets ss all)) (never_walked ss t) ∙ and_true (filled (e t))))
+        ap (count_below 32) (fun_ext (λ t. ap₂ ◌&&◌ (ap (λ f. filled (f t)) (same_sheets ss all)) (never_walked ss t) ∙ and-true (filled (e t))))

@@ -1,9 +1,9 @@
 -- What an accepted call has passed.
 use Rattle.std.proofs.Common.{◌≡◌, ℕ, ◌<◌, Bool, true, false, not, ◌||◌, eqb, ltb, Some, None, Ok, Err, Option, Result, sym, refl, ap, ◌∙◌, subst, arith}
 use Rattle.std.proofs.lemmas.Bool.{ltb-false, eqb-true, not-false, and_parts}
-use Rattle.history.specs.Words.{updated, lowest, filled}
+use Rattle.history.specs.Words.{updated, lowest}
 use Rattle.history.specs.Language.{Fault, Signatures, head_for, Language}
-use Rattle.history.specs.Calls.{refusal, sized, Call, Call.post, Call.put, Call.clear, Call.check, Act, Act.wrote, Act.emptied, Act.walked, guard, unless_repeated, elsewhere, putting, formed, posting, outcome}
+use Rattle.history.specs.Calls.{refusal, sized, Call, Call.post, Call.put, Call.clear, Call.check, Act, Act.wrote, Act.emptied, Act.walked, guard, unless_repeated, putting, formed, posting, outcome}
 use Rattle.history.proofs.Words.{updated_other, lowest_none_at, filled_none}
 
 -- the test passed gives both lengths

@@ -33,11 +33,10 @@ module _ {Frame Def Text : Type 0} (L : Language Frame Def Text) (K : Known L) w
   fault_some h t (Some d) f e = go (judge h d) refl
     where
       go : (v : Verdict) → judge h d ≡ v → (c : Def) × (Some d ≡ Some c) × (f.sheet ≡ t) × (judge h c ≡ bad f.layer f.number f.place)
-      go (good c) i = let z : ◌≡◌ {A = Option Fault} None (Some f) = sym (ap (fault_from t) i) ∙ e in cc
+      go (good c) i = cc
       go (bad l n p) i =
-          let z : ◌≡◌ {A = Option Fault} (Some (record { number = n; layer = l; sheet = t; place = p })) (Some f) = sym (ap (fault_from t) i) ∙ e in
           let y : ◌≡◌ {A = Fault} (record { number = n; layer = l; sheet = t; place = p }) f = cc in
-          (d, refl, sym (ap (λ q. q.sheet) y), i ∙ ap (λ q. bad q.layer q.number q.place) y)
+          (d, refl, cc, cc)
 
   -- no sheet has a fault exactly when each definition has a derivation
   pub derives : (p : Plain L) → Sound L p → (fault_of L p.entries ≡ None) ↔ BookDerives L p.entries
@@ -46,7 +45,7 @@ module _ {Frame Def Text : Type 0} (L : Language Frame Def Text) (K : Known L) w
     (λ e t d i.
         elim (cases_lt t 32) [
           | inl m ↦ derives_at p.entries t d i (lowest_none_at 32 (λ u. fault_at L (heads_in L p.entries) u (p.entries u)) e t m)
-          | inr m ↦ let z : ◌≡◌ {A = Option Def} None (Some d) = sym (ok.orderly.small t m) ∙ i in cc
+          | inr m ↦ cc (ok.orderly.small t m)
         ]),
     λ g. lowest_none 32 (λ t. fault_at L (heads_in L p.entries) t (p.entries t)) (λ t m. fault_none (heads_in L p.entries) t (p.entries t) (g t)),
   )

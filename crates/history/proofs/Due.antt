@@ -1,5 +1,5 @@
 -- A sheet is marked exactly if after each of its walks came a call that touched it.
-use Rattle.std.proofs.Common.{◌≡◌, ℕ, Bool, true, false, cond, ◌||◌, ◌⊎◌, [], ◌∷◌, ◌++◌, Ok, Err, Result, sym, refl, ap, ◌∙◌, subst, inl, inr, arith}
+use Rattle.std.proofs.Common.{◌≡◌, ℕ, Bool, true, false, cond, ◌||◌, ◌⊎◌, [], ◌∷◌, ◌++◌, Ok, Err, Result, sym, refl, ap, ◌∙◌, subst, inl, inr}
 use Rattle.std.proofs.lemmas.Bool.{cond-true, cond-false, cases_Bool, both_ways, or_cases, or_left, or_right}
 use Rattle.history.specs.Language.{Fault, Language, signatures}
 use Rattle.history.specs.Calls.{Call, History, Act, Act.wrote, Act.emptied, Act.walked, outcome}
@@ -73,11 +73,11 @@ module _ {Frame Def Text : Type 0} (L : Language Frame Def Text) where
   later : (h : History L) (t : ℕ) (k : Call L) (new : History L) (c : Call L) (old : History L) → h ≡ new ++ (c ∷ old) → ((a : Act L) → outcome L (signatures L (plain L h).entries) k ≡ Ok a → touches L (plain L h).entries a t ≡ false) → (late : History L) (m : Call L) (early : History L) → k ∷ new ≡ late ++ (m ∷ early) → Touched L (early ++ (c ∷ old)) m t → (late' : History L) × (m' : Call L) × (early' : History L) × (new ≡ late' ++ (m' ∷ early')) × Touched L (early' ++ (c ∷ old)) m' t
   later h t k new c old i none [] m early e w =
       let em : m ≡ k = cc in
-      let ee : early ++ (c ∷ old) ≡ h = (let en : early ≡ new = cc in ap (λ q. q ++ (c ∷ old)) en ∙ sym i) in
+      let ee : early ++ (c ∷ old) ≡ h = cc in
       let v : Touched L h k t = subst (λ q. Touched L q k t) ee (subst (λ q. Touched L (early ++ (c ∷ old)) q t) em w) in
       let m = touched_mark L h k t v in
       absurd (both_ways (touches L (plain L h).entries m.0 t) (none m.0 m.1) m.2)
-  later h t k new c old i none (x ∷ late) m early e w = (late, m, early, (let en : new ≡ late ++ (m ∷ early) = cc in en), w)
+  later h t k new c old i none (x ∷ late) m early e w = (late, m, early, cc, w)
 
   -- a marked sheet is behind each of its walks
   pub behind : (h : History L) (t : ℕ) → (plain L h).since t ≡ true → EachBehind h t

@@ -32,7 +32,7 @@ none_passed false f e = cc
 -- the refusal is the one that the test names
 some_refusal : (b : Bool) (f g : Fault) → cond b None (Some g) ≡ Some f → f ≡ g
 some_refusal true f g e = cc
-some_refusal false f g e = let i : g ≡ f = cc in sym i
+some_refusal false f g e = cc
 
 -- fresh is accepted exactly with both lengths 8,192
 pub fresh_accepted : (fl cl : ℕ) → (fresh_refusal fl cl ≡ None) ↔ ((fl ≡ 8192) × (cl ≡ 8192))

@@ -1,5 +1,5 @@
 -- Due by the recursion over the history is due by its sentence: the last walk of a sheet stands for all of its walks.
-use Rattle.std.proofs.Common.{◌≡◌, ℕ, true, ◌⊎◌, ◌↔◌, [], ◌∷◌, ◌++◌, Ok, Err, Result, sym, refl, ap, ◌∙◌, subst, ap₂, inl, inr, append_assoc, arith}
+use Rattle.std.proofs.Common.{◌≡◌, ℕ, true, ◌⊎◌, ◌↔◌, [], ◌∷◌, ◌++◌, Ok, Err, Result, sym, refl, ap, ◌∙◌, subst, ap₂, inl, inr, append_assoc}
 use Rattle.std.proofs.lemmas.Bool.{cases_Bool, both_ways, and_parts, and_from}
 use Rattle.history.specs.Words.{filled}
 use Rattle.history.specs.Language.{Fault, Language}
@@ -11,9 +11,9 @@ use Rattle.history.proofs.Due.{EachBehind, none_late, behind, since_of}
 module _ {Frame Def Text : Type 0} (L : Language Frame Def Text) where
   -- whether a call walks a sheet is decided
   walked_cases : (h : History L) (c : Call L) (t : ℕ) (r : Result (Act L) Fault) → result L h c ≡ r → Walked L h c t ⊎ (Walked L h c t → ⊥)
-  walked_cases h c t (Err f) i = inr (λ w. let e : Err f ≡ Ok walked = sym i ∙ w.0 in cc)
-  walked_cases h c t (Ok (wrote s d)) i = inr (λ w. let e : Ok (wrote s d) ≡ Ok walked = sym i ∙ w.0 in cc)
-  walked_cases h c t (Ok (emptied s)) i = inr (λ w. let e : Ok (emptied s) ≡ Ok walked = sym i ∙ w.0 in cc)
+  walked_cases h c t (Err f) i = inr (λ w. cc w.0)
+  walked_cases h c t (Ok (wrote s d)) i = inr (λ w. cc w.0)
+  walked_cases h c t (Ok (emptied s)) i = inr (λ w. cc w.0)
   walked_cases h c t (Ok walked) i =
       elim (cases_Bool (due L (plain L h) t)) [
         | inl y ↦ inl (i, y)
@@ -26,15 +26,15 @@ module _ {Frame Def Text : Type 0} (L : Language Frame Def Text) where
       let i : k ≡ c = cc in
       let j : early ≡ h = cc in
       idle (subst (λ q. Walked L q c t) j (subst (λ q. Walked L early q t) i w))
-  never_more c h t idle never (x ∷ late) k early e w = never late k early (let j : h ≡ late ++ (k ∷ early) = cc in j) w
+  never_more c h t idle never (x ∷ late) k early e w = never late k early (cc) w
 
   -- and its last walk too
   last_more : (c : Call L) (h new : History L) (k : Call L) (old : History L) (t : ℕ) → h ≡ new ++ (k ∷ old) → (Walked L h c t → ⊥) → ((late : History L) (m : Call L) (early : History L) → new ≡ late ++ (m ∷ early) → Walked L (early ++ (k ∷ old)) m t → ⊥) → (late : History L) (m : Call L) (early : History L) → c ∷ new ≡ late ++ (m ∷ early) → Walked L (early ++ (k ∷ old)) m t → ⊥
   last_more c h new k old t all idle last [] m early e w =
       let i : m ≡ c = cc in
-      let j : early ++ (k ∷ old) ≡ h = (let n : early ≡ new = cc in ap (λ q. q ++ (k ∷ old)) n ∙ sym all) in
+      let j : early ++ (k ∷ old) ≡ h = cc in
       idle (subst (λ q. Walked L q c t) j (subst (λ q. Walked L (early ++ (k ∷ old)) q t) i w))
-  last_more c h new k old t all idle last (x ∷ late) m early e w = last late m early (let j : new ≡ late ++ (m ∷ early) = cc in j) w
+  last_more c h new k old t all idle last (x ∷ late) m early e w = last late m early (cc) w
 
   -- one call more
   last_step : (c : Call L) (h : History L) (t : ℕ) → Walked L h c t ⊎ (Walked L h c t → ⊥) → NeverWalked L h t ⊎ LastWalk L h t → NeverWalked L (c ∷ h) t ⊎ LastWalk L (c ∷ h) t
@@ -62,8 +62,8 @@ module _ {Frame Def Text : Type 0} (L : Language Frame Def Text) where
   -- which of the three it is
   places_cases : (new : History L) (c : Call L) (old new' : History L) (c' : Call L) (old' : History L) → new ++ (c ∷ old) ≡ new' ++ (c' ∷ old') → Older new c old new' c' old' ⊎ (((new ≡ new') × (c ≡ c') × (old ≡ old')) ⊎ Older new' c' old' new c old)
   places_cases [] c old [] c' old' e = inr (inl (refl, cc, cc))
-  places_cases [] c old (x ∷ new') c' old' e = inl (new', (let i : x ≡ c = cc in ap (λ q. q ∷ new') i), cc)
-  places_cases (x ∷ new) c old [] c' old' e = inr (inr (new, (let i : x ≡ c' = cc in ap (λ q. q ∷ new) i), cc))
+  places_cases [] c old (x ∷ new') c' old' e = inl (new', cc, cc)
+  places_cases (x ∷ new) c old [] c' old' e = inr (inr (new, cc, cc))
   places_cases (x ∷ new) c old (y ∷ new') c' old' e =
       let i : x ≡ y = cc in
       let j : new ++ (c ∷ old) ≡ new' ++ (c' ∷ old') = cc in

@@ -1,5 +1,5 @@
 -- The law over every history.
-use Rattle.std.proofs.Common.{◌≡◌, ℕ, Ok, Err, Result, sym, refl, ap, ◌∙◌, ap₂, arith}
+use Rattle.std.proofs.Common.{◌≡◌, Ok, Err, Result, sym, refl, ap, ◌∙◌, ap₂}
 use Rattle.history.specs.Language.{Fault, Language}
 use Rattle.history.specs.Calls.{History, Act, Act.wrote, Act.emptied, Act.walked, outcome, Answer}
 use Rattle.history.specs.Plain.{plain, walks_by}

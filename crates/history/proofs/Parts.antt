@@ -1,7 +1,7 @@
 -- Laws of an area of 8,192 places as 32 parts of 256.
-use Rattle.std.proofs.Common.{◌≡◌, ℕ, zero, suc, ◌+◌, ◌-◌, ◌*◌, ◌/◌, ◌%◌, ◌<◌, ◌≤◌, Bool, true, false, cond, ◌⊎◌, List, ◌++◌, length, get_or, take, drop, sym, refl, ap, ◌∙◌, subst, inl, inr, ⊎_elim, arith}
+use Rattle.std.proofs.Common.{◌≡◌, ℕ, zero, suc, ◌+◌, ◌*◌, ◌/◌, ◌%◌, ◌<◌, ◌≤◌, Bool, true, false, cond, ◌⊎◌, List, ◌++◌, length, get_or, take, drop, sym, refl, ap, ◌∙◌, subst, inl, inr, arith}
 use Rattle.std.proofs.lemmas.Bool.{cases_eq, cases_lt, cond_both}
-use Rattle.std.proofs.lemmas.List.{same_lists, length-take, length-take-le, length-drop, length-append, get_or-take, get_or-drop, get_or_append_left, get_or-append_right, take_at, drop_at}
+use Rattle.std.proofs.lemmas.List.{places, same_lists, length-take, length-drop, length-append, get_or-take, get_or-drop}
 use Rattle.history.specs.Areas.{part, with_part, rewritten}
 
 -- an area keeps its length
@@ -16,36 +16,13 @@ overwritten a w b xs = take a xs ++ (b ++ drop (a + w) xs)
 -- the range that was written
 range_same : {X : Type 0} (a w : ℕ) (b xs : List X) → length b ≡ w → a + w ≤ length xs → take w (drop a (overwritten a w b xs)) ≡ b
 unfolding overwritten
-range_same a w b xs e l =
-    ap (take w) (drop_at (take a xs) (b ++ drop (a + w) xs) a (length-take-le a xs (omega arith))) ∙ take_at b (drop (a + w) xs) w e
-
--- a place before the range
-place_before : {X : Type 0} (a w : ℕ) (b xs : List X) (i : ℕ) (d : X) → a + w ≤ length xs → i < a → get_or (overwritten a w b xs) i d ≡ get_or xs i d
-unfolding overwritten
-place_before a w b xs i d l h =
-    get_or_append_left (take a xs) (b ++ drop (a + w) xs) d i (simp length-take (omega arith)) ∙ get_or-take a xs i d h
-
--- a place after the range
-place_after : {X : Type 0} (a w : ℕ) (b xs : List X) (i : ℕ) (d : X) → length b ≡ w → a + w ≤ length xs → a + w ≤ i → get_or (overwritten a w b xs) i d ≡ get_or xs i d
-unfolding overwritten
-place_after a w b xs i d e l h =
-    let j : (a + w) + (i - a - w) ≡ i = omega arith in
-    get_or-append_right (take a xs) (b ++ drop (a + w) xs) a i d (length-take-le a xs (omega arith)) (omega arith)
-    ∙ get_or-append_right b (drop (a + w) xs) w (i - a) d e (omega arith)
-    ∙ get_or-drop (a + w) xs (i - a - w) d
-    ∙ ap (λ k. get_or xs k d) j
+range_same a w b xs e l = same_lists (take w (drop a (overwritten a w b xs))) b (grind (arith, places)) (λ k d h. grind (arith, places))
 
 -- a range beside it
 range_other : {X : Type 0} (a c w : ℕ) (b xs : List X) → length b ≡ w → a + w ≤ length xs → ((i : ℕ) → i < w → (c + i < a) ⊎ (a + w ≤ c + i)) → take w (drop c (overwritten a w b xs)) ≡ take w (drop c xs)
+unfolding overwritten
 range_other a c w b xs e l apart =
-    same_lists (take w (drop c (overwritten a w b xs))) (take w (drop c xs)) (unfold overwritten in (simp (length-append, length-take, length-drop) (omega arith)))
-    (λ k d h.
-    let m : k < w = omega (arith, simp length-take at h) in
-    get_or-take w (drop c (overwritten a w b xs)) k d m
-    ∙ get_or-drop c (overwritten a w b xs) k d
-    ∙ ⊎_elim (λ y. place_before a w b xs (c + k) d l y) (λ y. place_after a w b xs (c + k) d e l y) (apart k m)
-    ∙ sym (get_or-drop c xs k d)
-    ∙ sym (get_or-take w (drop c xs) k d m))
+    same_lists (take w (drop c (overwritten a w b xs))) (take w (drop c xs)) (grind (arith, places)) (λ k d h. grind (arith, places, apart k))
 
 -- the part that was replaced
 pub part_same : {X : Type 0} (s : ℕ) (b xs : List X) → length b ≡ 256 → 256 * s + 256 ≤ length xs → part s (with_part s b xs) ≡ b
@@ -59,23 +36,16 @@ part_other s t b xs e l ne =
     range_other (256 * s) (256 * t) 256 b xs e l
     (λ i h. elim (cases_lt t s) [ inl y ↦ inl (omega arith) | inr y ↦ inr (omega arith) ])
 
--- a part has 256 places
-pub length_part : {X : Type 0} (t : ℕ) (xs : List X) → 256 * t + 256 ≤ length xs → length (part t xs) ≡ 256
-unfolding part
-length_part t xs l = simp (length-take, length-drop) (omega arith)
-
--- a place of the area in its part
-get_d_part : {X : Type 0} (xs : List X) (k : ℕ) (d : X) → get_or xs k d ≡ get_or (part (k / 256) xs) (k % 256) d
-unfolding part
-get_d_part xs k d =
-    let e : 256 * (k / 256) + k % 256 ≡ k = omega arith in
-    let l : k % 256 < 256 = omega arith in
-    sym (get_or-take 256 (drop (256 * (k / 256)) xs) (k % 256) d l ∙ get_or-drop (256 * (k / 256)) xs (k % 256) d ∙ ap (λ i. get_or xs i d) e)
-
 -- a place of a sheet in its part
 pub place_in_part : {X : Type 0} (xs : List X) (s k : ℕ) (d : X) → k < 256 → get_or xs (256 * s + k) d ≡ get_or (part s xs) k d
 unfolding part
 place_in_part xs s k d l = sym (get_or-take 256 (drop (256 * s) xs) k d l ∙ get_or-drop (256 * s) xs k d)
+
+-- a place of the area in its part
+get_d_part : {X : Type 0} (xs : List X) (k : ℕ) (d : X) → get_or xs k d ≡ get_or (part (k / 256) xs) (k % 256) d
+get_d_part xs k d =
+    let e : 256 * (k / 256) + k % 256 ≡ k = omega arith in
+    sym (ap (λ i. get_or xs i d) e) ∙ place_in_part xs (k / 256) (k % 256) d (omega arith)
 
 -- two areas with the same parts are the same
 pub same_areas : {X : Type 0} (xs ys : List X) → length xs ≡ 8192 → length ys ≡ 8192 → ((t : ℕ) → t < 32 → part t xs ≡ part t ys) → xs ≡ ys

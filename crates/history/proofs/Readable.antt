@@ -117,7 +117,7 @@ module _ {Frame Def Text : Type 0} (L : Language Frame Def Text) (K : Known L) w
           typed = λ v d l i n u.
               let a = asked_valid v s k d l i n in
               let g = said_gives heads d n k u in
-              ((λ e. g.0 (let q : Ok (said d (judged heads d n).0 k) ≡ Ok (Some u) = sym a ∙ e in cc)), λ w. a ∙ ap Ok (g.1 w));
+              ((λ e. g.0 cc), λ w. a ∙ ap Ok (g.1 w));
           untyped = λ v d l i n none.
               asked_valid v s k d l i n ∙ ap Ok (no_answer (said d (judged heads d n).0 k) (λ u e. none u ((said_gives heads d n k u).0 e)));
           past_end = asked_past s k;

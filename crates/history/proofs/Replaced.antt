@@ -1,6 +1,6 @@
 -- Put and clear keep the working book in step with the plain one.
 use Rattle.std.proofs.Common.{◌≡◌, ℕ, ◌+◌, ◌*◌, ◌<◌, ◌≤◌, Bool, true, false, cond, ◌&&◌, ◌||◌, eqb, List, Some, None, Option, sym, refl, ap, ◌∙◌, subst, inl, inr, arith}
-use Rattle.std.proofs.lemmas.Bool.{cond-false, cases_lt, cases_Bool, ne_eqb, or_parts, eqb-true, eqb-false}
+use Rattle.std.proofs.lemmas.Bool.{and_right, cond-false, cases_lt, cases_Bool, ne_eqb, or_parts, eqb-true, eqb-false}
 use Rattle.history.specs.Words.{updated, map_some, filled}
 use Rattle.history.specs.Language.{Heads, head_for, differ, heads_of, zeros, Language, signature, signatures, heads_in}
 use Rattle.history.specs.Plain.{calls_altered, Plain, due}
@@ -26,11 +26,6 @@ module _ {Frame Def Text : Type 0} (L : Language Frame Def Text) (K : Known L) w
   abbrev NewColumn : Bool → Option Def → Heads → Heads → Option Def → Bool → List ℕ → Type 0
   NewColumn b x h k y s c = (filled (cond b x y) && ((filled x && b || calls_altered L h k y) || s)) ≡ false → c ≡ column_at L k (cond b x y)
 
-  -- nothing and false
-  and_false : (b : Bool) → (b && false) ≡ false
-  and_false true = refl
-  and_false false = refl
-
   -- the column of another sheet, unless it is due now
   column_other : (h k : Heads) (x y : Option Def) (s : Bool) (c c' : List ℕ) → c' ≡ c → ((filled y && s) ≡ false → c ≡ column_at L h y) → NewColumn false x h k y s c'
   column_other h k x None s c c' e old f = e ∙ old refl
@@ -47,7 +42,7 @@ module _ {Frame Def Text : Type 0} (L : Language Frame Def Text) (K : Known L) w
   -- the record of another sheet
   row_other : (h k : Heads) (o w : Option (ℕ × ℕ)) (x y : Option Def) (s : Bool) (b : List Frame) (r m : Option Record) → b ≡ image_at L y → ((n : ℕ) → differ (h n) (k n) ≡ differ (head_for n o) (head_for n w)) → Row L h y (filled y && s) m → NewRow false x h k y s r (marked L o w b m)
   row_other h k o w x y s b r m e hit row =
-      subst (λ f. Row L k y (filled y && ((f || calls_altered L h k y) || s)) (marked L o w b m)) (sym (and_false (filled x)))
+      subst (λ f. Row L k y (filled y && ((f || calls_altered L h k y) || s)) (marked L o w b m)) (sym (and_right (filled x) false refl))
       (row_marked L K h k o w y s b m e hit row)
 
   -- the record that the replaced sheet gets

@@ -58,6 +58,6 @@ module _ {Frame Def Text : Type 0} (L : Language Frame Def Text) where
   unfolding asked
   asks book s k u l =
       let a : asked L book s k ≡ Ok (type_asked L book s k (record_at book s)) = cond-false (ltb 31 s) (Err (refusal 31 s)) (Ok (type_asked L book s k (record_at book s))) (le-ltb 31 s (omega arith)) in (
-        (λ e. shown_of book s k u (record_at book s) refl (let q : Ok (type_asked L book s k (record_at book s)) ≡ Ok (Some u) = sym a ∙ e in cc)),
+        (λ e. shown_of book s k u (record_at book s) refl cc),
         λ w. a ∙ ap Ok (asked_of book s k u w),
       )

@@ -1,5 +1,5 @@
 -- Valid by the recursion over the history is valid by its sentence.
-use Rattle.std.proofs.Common.{◌≡◌, ℕ, true, not, ◌↔◌, [], ◌∷◌, None, Ok, Err, Result, refl, ap, ◌∙◌, arith}
+use Rattle.std.proofs.Common.{◌≡◌, ℕ, true, not, ◌↔◌, [], ◌∷◌, None, Ok, Err, Result, refl, ap, ◌∙◌}
 use Rattle.std.proofs.lemmas.Bool.{not-true}
 use Rattle.history.specs.Words.{count_below, filled}
 use Rattle.history.specs.Language.{Fault, Language}
@@ -20,7 +20,7 @@ module _ {Frame Def Text : Type 0} (L : Language Frame Def Text) where
   -- only a refused call tells a refusal
   told_refused : (p : Plain L) (r : Result (Act L) Fault) (f : Fault) → told L p r ≡ refused f → r ≡ Err f
   unfolding told
-  told_refused p (Err g) f e = let i : g ≡ f = cc in ap Err i
+  told_refused p (Err g) f e = cc
   told_refused p (Ok (wrote s d)) f e = cc
   told_refused p (Ok (emptied s)) f e = cc
   told_refused p (Ok walked) f e = cc

@@ -36,8 +36,7 @@ derived_call (Some x) w c e =
     elim (cases_Bool (eqb x w)) [
       | inl y ↦ ap Some (eqb-true x w y)
       | inr y ↦
-          let f : bad 4 54 1 ≡ good c = sym (cond-false (eqb x w) (good call_column) (bad 4 54 1) y) ∙ e in
-          cc
+          cc (rw y at e)
     ]
 
 -- so what is found valid has a derivation
@@ -53,7 +52,7 @@ judged_call o w i = ap (λ q. judge_call q w) i ∙ cond-true (eqb w w) (good ca
 call_types : (p u : ℕ) → (type_at 2 call_column p ≡ Some u) ↔ ((p ≡ 1) × (u ≡ 2))
 unfolding call_column
 call_types zero u = ((λ e. cc), λ q. absurd (omega (arith, q.0)))
-call_types (suc zero) u = ((λ e. (refl, (let i : 2 ≡ u = cc in sym i))), λ q. ap Some (sym q.1))
+call_types (suc zero) u = ((λ e. (refl, cc)), λ q. ap Some (sym q.1))
 call_types (suc (suc p)) u = (
   (λ e.
       let f : ◌≡◌ {A = Option ℕ} None (Some u) = sym (cond-false (ltb (suc (suc p)) 2) (as_type (get_or call_column (suc (suc p)) 0)) None (le-ltb (suc (suc p)) 2 (omega arith))) ∙ e in
@@ -89,8 +88,7 @@ ruled_call None w l n p e =
 ruled_call (Some x) w l n p e =
     elim (cases_Bool (eqb x w)) [
       | inl y ↦
-          let f : good call_column ≡ bad l n p = sym (cond-true (eqb x w) (good call_column) (bad 4 54 1) y) ∙ e in
-          cc
+          cc (rw y at e)
       | inr y ↦
           let f : bad 4 54 1 ≡ bad l n p = sym (cond-false (eqb x w) (good call_column) (bad 4 54 1) y) ∙ e in
           let a : 4 ≡ l = cc in
