@@ -15,34 +15,28 @@ use Rattle.rules.proofs.Results.{no_answer, needed, required, same_self, same_tr
 use Rattle.rules.proofs.Rows.{none_some, row_some, update_some}
 
 -- ===== chains that fail =====
-pub no_refusal : {A E C : Type 0} {a : A} {x : E} → Ok a ≡ Err x → C
-no_refusal h = no_answer (sym h)
-
-pub refusals_same : {A E : Type 0} {x y : E} → ◌≡◌ {A = Result A E} (Err x) (Err y) → x ≡ y
-refusals_same h = cc
-
 pub fails : {A B E C : Type 0} (m : Result A E) (f : A → Result B E) {x : E} → (m >>= f) ≡ Err x → (m ≡ Err x → C) → ((a : A) → m ≡ Ok a → f a ≡ Err x → C) → C
 fails (Ok a) f h k g = g a refl h
-fails (Err y) f h k g = k (ap Err (refusals_same h))
+fails (Err y) f h k g = k (cc)
 
 pub needs_none : {A : Type 0} (w : Violation) (o : Option A) {v : Violation} → need w o ≡ Err v → (o ≡ None) × (w ≡ v)
-needs_none w None h = (refl, refusals_same h)
-needs_none w (Some a) h = no_refusal h
+needs_none w None h = (refl, cc)
+needs_none w (Some a) h = cc
 
 pub requires_false : (w : Violation) (b : Truth) {v : Violation} → require w b ≡ Err v → (b ≡ false) × (w ≡ v)
-requires_false w true h = no_refusal h
-requires_false w false h = (refl, refusals_same h)
+requires_false w true h = cc
+requires_false w false h = (refl, cc)
 
 -- ===== tests that fail =====
 same_not : (t u : Ty) → same t u ≡ false → t ≡ u → ⊥
-same_not t u h e = false≢true (sym h ∙ subst (λ w. same t w ≡ true) e (same_self t))
+same_not t u h e = cc (same_self t)
 
 same_all_not : (ts us : List Ty) → same_all ts us ≡ false → ts ≡ us → ⊥
-same_all_not ts us h e = false≢true (sym h ∙ subst (λ ws. same_all ts ws ≡ true) e (same_all_self ts))
+same_all_not ts us h e = cc (same_all_self ts)
 
 lacks_not : (o : Option Ty) → not (is_some o) ≡ false → o ≡ None → ⊥
-lacks_not None h e = false≢true (sym h)
-lacks_not (Some t) h e = none_some (sym e)
+lacks_not None h e = cc
+lacks_not (Some t) h e = cc
 
 -- ===== judgements that fail =====
 pub variable_fails : (Γ : Levels) (x : ℕ) {v : Violation} → judge_variable Γ x ≡ Err v → VariableBroken Γ x v
@@ -54,7 +48,7 @@ update_fails Γ c x h =
     (λ h₁. let k = needs_none Undeclared (looked Γ x) h₁ in subst (UpdateBroken Γ c x) k.1 (update_undeclared k.0))
     (λ t h₁ h₂.
     let k = needs_none OtherOperands (arithmetic t) h₂ in
-    subst (UpdateBroken Γ c x) k.1 (update_outside_row (needed Undeclared (looked Γ x) h₁) (λ u. none_some (sym k.0 ∙ update_some u))))
+    subst (UpdateBroken Γ c x) k.1 (update_outside_row (needed Undeclared (looked Γ x) h₁) (λ u. cc (update_some u))))
 
 call_refused : (S : Signature) (f : ℕ) (ts : List Ty) (H : Head) {v : Violation} → S f ≡ Some H → judge_arguments ts H ≡ Err v → CallBroken S f ts v
 call_refused S f ts (head us r) e h =
@@ -64,7 +58,7 @@ call_refused S f ts (head us r) e h =
     (λ _ h₂ h₃.
     let k = requires_false OtherArgument _ h₃ in
     subst (CallBroken S f ts) k.1 (other_argument e (eqb-true (length ts) (length us) (required OtherCount _ h₂)) (same_all_not ts us k.0))))
-    (λ _ h₁ h₂. no_refusal h₂)
+    (λ _ h₁ h₂. cc)
 
 pub call_fails : (S : Signature) (f : ℕ) (ts : List Ty) {v : Violation} → judge_call S f ts ≡ Err v → CallBroken S f ts v
 call_fails S f ts h =
@@ -78,7 +72,7 @@ binary_fails o t u h =
     (λ h₁. let k = requires_false OtherOperands _ h₁ in subst (BinaryBroken o t u) k.1 (operands_differ (same_not t u k.0)))
     (λ _ h₁ h₂.
     let k = needs_none OtherOperands (row o t) h₂ in
-    subst (BinaryBroken o t u) k.1 (operands_outside_row (same_true t u (required OtherOperands _ h₁)) (λ r R. none_some (sym k.0 ∙ row_some R))))
+    subst (BinaryBroken o t u) k.1 (operands_outside_row (same_true t u (required OtherOperands _ h₁)) (λ r R. cc (row_some R))))
 
 pub assign_fails : (Γ : Levels) (x : ℕ) (t : Ty) {v : Violation} → judge_assign Γ x t ≡ Err v → AssignBroken Γ x t v
 assign_fails Γ x t h =
@@ -86,7 +80,7 @@ assign_fails Γ x t h =
     (λ h₁. let k = needs_none Undeclared (looked Γ x) h₁ in subst (AssignBroken Γ x t) k.1 (assign_undeclared k.0))
     (λ u h₁ h₂. fails (require OtherAssigned (same u t)) _ h₂
     (λ h₃. let k = requires_false OtherAssigned _ h₃ in subst (AssignBroken Γ x t) k.1 (other_assigned (needed Undeclared (looked Γ x) h₁) (same_not u t k.0)))
-    (λ _ h₃ h₄. no_refusal h₄))
+    (λ _ h₃ h₄. cc))
 
 pub init_fails : (τ : Table Ty) (Γ : Levels) (t : Ty) (x : ℕ) (u : Ty) {v : Violation} → judge_init (τ ∷ Γ) t x u ≡ Err v → InitBroken τ t x u v
 init_fails τ Γ t x u h =

@@ -14,7 +14,7 @@ use Rattle.rules.proofs.Results.{answers_same}
 use Rattle.rules.proofs.Checker.{Typed, check_expr, check_exprs}
 use Rattle.rules.proofs.Stacked.{expr_stacked, arguments_stacked, blanks_stacked, sequence_stacked}
 use Rattle.rules.proofs.Expressions.{expr_complete, arguments_complete, expr_sound, exprs_sound}
-use Rattle.rules.proofs.Broken.{no_refusal, refusals_same, fails, variable_fails, update_fails, call_fails, binary_fails, assign_fails}
+use Rattle.rules.proofs.Broken.{fails, variable_fails, update_fails, call_fails, binary_fails, assign_fails}
 
 -- ===== places of a column that was piled up =====
 mutual
@@ -55,33 +55,33 @@ sequence_place (choose_valid {s₁ = s₁} {s₂ = s₂} {ss = ss} d d₁ d₂ d
 
 -- ===== a frame that fails is the place, and leaves the levels =====
 pub placed_fails : {A : Type 0} (n : ℕ) (Γ : Levels) (m : Result A Violation) {v : Violation} {p : ℕ} {Δ : Levels} → placed n Γ m ≡ Err (fault v p Δ) → (m ≡ Err v) × (p ≡ n) × (Γ ≡ Δ)
-placed_fails n Γ (Ok a) h = no_refusal h
+placed_fails n Γ (Ok a) h = cc
 placed_fails n Γ (Err w) {v} {p} {Δ} h =
-    let e : fault w n Γ ≡ fault v p Δ = refusals_same h in
+    let e : fault w n Γ ≡ fault v p Δ = cc in
     let i : w ≡ v = cc in
     let j : n ≡ p = cc in
     let k : Γ ≡ Δ = cc in
     (ap Err i, sym j, k)
 
 pub moved_fails : {A B : Type 0} (n : ℕ) (Γ : Levels) (m : Result A Violation) (f : A → B) {v : Violation} {p : ℕ} {Δ : Levels} → (placed n Γ m >>= λ a. Ok (f a)) ≡ Err (fault v p Δ) → (m ≡ Err v) × (p ≡ n) × (Γ ≡ Δ)
-moved_fails n Γ m f h = fails (placed n Γ m) _ h (placed_fails n Γ m) (λ a h₁ h₂. no_refusal h₂)
+moved_fails n Γ m f h = fails (placed n Γ m) _ h (placed_fails n Γ m) (λ a h₁ h₂. cc)
 
 module _ (S : Signature) where
   -- where an expression that was checked ends
   pub checked_place : (Γ : Levels) (e : Expr) (a : List ℕ) {p : Typed} → check_expr S Γ e a ≡ Ok p → length p.1 ≡ after_expr e (length a)
   checked_place Γ e a h =
       let d = expr_sound S Γ e a h in
-      ap (λ (q : Typed). length q.1) (answers_same (sym h ∙ expr_complete S Γ d a)) ∙ expr_place d a
+      cc (expr_complete S Γ d a, expr_place d a)
 
   checked_places : (Γ : Levels) (es : Exprs) (a : List ℕ) {p : List Ty × List ℕ} → check_exprs S Γ es a ≡ Ok p → length p.1 ≡ after_exprs es (length a)
   checked_places Γ es a h =
       let d = exprs_sound S Γ es a h in
-      ap (λ (q : List Ty × List ℕ). length q.1) (answers_same (sym h ∙ arguments_complete S Γ d a)) ∙ arguments_place d a
+      cc (arguments_complete S Γ d a, arguments_place d a)
 
   module _ (v : Violation) (p : ℕ) (Δ : Levels) where
     mutual
       pub expr_breaks : (Γ : Levels) (e : Expr) (a : List ℕ) → check_expr S Γ e a ≡ Err (fault v p Δ) → ExprBroken S Γ e (length a) v p × (Γ ≡ Δ)
-      expr_breaks Γ (literal l) a h = no_refusal h
+      expr_breaks Γ (literal l) a h = cc
       expr_breaks Γ (variable x) a h = let k = moved_fails (length a) Γ _ _ h in ((k.1, variable_fails Γ x k.0), k.2)
       expr_breaks Γ (update c x) a h = let k = moved_fails (length a) Γ _ _ h in ((k.1, update_fails Γ c x k.0), k.2)
       expr_breaks Γ (call f es) a h =
@@ -111,13 +111,13 @@ module _ (S : Signature) where
           (inr (q.0, expr_sound S Γ e a h₁, k.1 ∙ checked_place Γ e a h₁, assign_fails Γ x q.0 k.0), k.2))
 
       exprs_break : (Γ : Levels) (es : Exprs) (a : List ℕ) → check_exprs S Γ es a ≡ Err (fault v p Δ) → ExprsBroken S Γ es (length a) v p × (Γ ≡ Δ)
-      exprs_break Γ none a h = no_refusal h
+      exprs_break Γ none a h = cc
       exprs_break Γ (more e es) a h =
           fails (check_expr S Γ e a) _ h
           (λ h₁. let k = expr_breaks Γ e a h₁ in (inl k.0, k.1))
           (λ q h₁ h₂. fails (check_exprs S Γ es q.1) _ h₂
           (λ h₃. let k = exprs_break Γ es q.1 h₃ in (inr (q.0, expr_sound S Γ e a h₁, subst (λ n. ExprsBroken S Γ es n v p) (checked_place Γ e a h₁) k.0), k.1))
-          (λ w h₃ h₄. no_refusal h₄))
+          (λ w h₃ h₄. cc))
 
     -- an expression, then a frame that judges its type
     pub then_breaks : (Γ : Levels) (e : Expr) (a : List ℕ) {C : Type 0} (B : Ty → Violation → Type 0) (judge : Ty → Result (Unit {0}) Violation) (f : Typed → C) → ((u : Ty) → judge u ≡ Err v → B u v)

@@ -13,7 +13,7 @@ use Rattle.rules.proofs.Checker.{check_names}
 use Rattle.rules.proofs.Results.{no_answer}
 use Rattle.rules.proofs.Statements.{free_of_none, names_sound, names_complete}
 use Rattle.rules.proofs.Walks.{kept_rest}
-use Rattle.rules.proofs.Broken.{no_refusal, fails, requires_false}
+use Rattle.rules.proofs.Broken.{fails, requires_false}
 use Rattle.rules.proofs.BrokenExpressions.{placed_fails}
 
 -- where the names stop: those before pass, and with the next one they fail
@@ -34,7 +34,7 @@ same_top true τ = refl
 same_top false τ = refl
 
 names_stop : (own : Truth) (Γ : Levels) (τ : Table Ty) (t : Ty) (earlier xs a : List ℕ) (v : Violation) (p : ℕ) (Δ : Levels) → check_names own Γ τ t earlier xs a ≡ Err (fault v p Δ) → NamesStop own Γ τ t earlier xs a v p Δ
-names_stop own Γ τ t earlier [] a v p Δ h = no_refusal h
+names_stop own Γ τ t earlier [] a v p Δ h = cc
 names_stop own Γ τ t earlier (x ∷ xs) a v p Δ h =
     let judged = placed (length a) (τ ∷ Γ) (judge_name (τ ∷ Γ) earlier x) in
     let σ = cond own τ ((x, t) ∷ τ) in
@@ -81,7 +81,7 @@ names_break own Γ τ t xs a v p Δ h =
       names = q.names;
       distinct = g.0;
       lacking = g.1;
-      breaks = λ d l. no_answer (sym q.stops ∙ names_complete own Γ τ t [] (q.before ++ q.name ∷ []) a (d, l, free_of_none (q.before ++ q.name ∷ [])));
+      breaks = λ d l. cc (q.stops, names_complete own Γ τ t [] (q.before ++ q.name ∷ []) a (d, l, free_of_none (q.before ++ q.name ∷ [])));
       violation = q.violation;
       place = q.place;
       left = q.left;

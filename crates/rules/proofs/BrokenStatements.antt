@@ -18,7 +18,7 @@ use Rattle.rules.proofs.Checker.{check_expr, top_after, closing, check_stmt, che
 use Rattle.rules.proofs.Expressions.{expr_sound}
 use Rattle.rules.proofs.Statements.{only_one, sequence_complete, stmt_sound, condition_judged, closing_judged, expr_as}
 use Rattle.rules.proofs.Decided.{top_level, sheet_written, body_checked, before_body, params_level}
-use Rattle.rules.proofs.Broken.{no_refusal, fails, init_fails, return_fails, condition_fails}
+use Rattle.rules.proofs.Broken.{fails, init_fails, return_fails, condition_fails}
 use Rattle.rules.proofs.BrokenExpressions.{blanks_place, sequence_place, moved_fails, checked_place, expr_breaks, then_breaks}
 use Rattle.rules.proofs.BrokenNames.{names_break}
 
@@ -27,10 +27,10 @@ module _ (S : Signature) (r : Ty) where
   stmt_place : (own : Truth) (Γ : Levels) (τ : Table Ty) (s : Stmt) (a : List ℕ) {c : List ℕ} → check_stmt S r own Γ τ s a ≡ Ok c → length c ≡ after_stmt s (length a)
   stmt_place true Γ τ s a {c} h =
       let D = stmt_sound S r s true Γ τ a h empty_valid in
-      ap length (answers_same (sym h ∙ only_one S r Γ τ s a (sequence_complete S r D a))) ∙ sequence_place D a
+      cc (only_one S r Γ τ s a (sequence_complete S r D a), sequence_place D a)
   stmt_place false Γ τ s a {c} h =
       let D = stmt_sound S r s false Γ τ a h empty_valid in
-      ap length (answers_same (sym (ap (λ m. m >>= λ c. Ok c) h) ∙ sequence_complete S r D a)) ∙ sequence_place D a
+      cc (rw h at (sequence_complete S r D a), sequence_place D a)
 
   module _ (v : Violation) (p : ℕ) (Δ : Levels) where
     -- a condition, and what it governs
@@ -52,12 +52,12 @@ module _ (S : Signature) (r : Ty) where
 
     mutual
       stmt_breaks : (s : Stmt) (own : Truth) (Γ : Levels) (τ : Table Ty) (a : List ℕ) → check_stmt S r own Γ τ s a ≡ Err (fault v p Δ) → StmtBroken S r own Γ τ s (length a) v p Δ
-      stmt_breaks (perform e) own Γ τ a h = fails (check_expr S (τ ∷ Γ) e a) _ h (expr_breaks S v p Δ (τ ∷ Γ) e a) (λ q h₁ h₂. no_refusal h₂)
+      stmt_breaks (perform e) own Γ τ a h = fails (check_expr S (τ ∷ Γ) e a) _ h (expr_breaks S v p Δ (τ ∷ Γ) e a) (λ q h₁ h₂. cc)
       stmt_breaks (declare t xs) own Γ τ a h = names_break own Γ τ t xs (0 ∷ a) v p Δ h
       stmt_breaks (init t x e) own Γ τ a h = then_breaks S v p Δ (τ ∷ Γ) e a (InitBroken τ t x) (judge_init (τ ∷ Γ) t x) _ (λ u k. init_fails τ Γ t x u k) h
       stmt_breaks return_nothing own Γ τ a h = let k = moved_fails (length a) (τ ∷ Γ) (judge_return r Void) _ h in (k.1, return_fails r Void k.0, k.2)
       stmt_breaks (return_value e) own Γ τ a h = then_breaks S v p Δ (τ ∷ Γ) e a (ReturnBroken r) (judge_return r) _ (λ u k. return_fails r u k) h
-      stmt_breaks (block ss) own Γ τ a h = fails (check_stmts S r (τ ∷ Γ) [] ss (0 ∷ a)) _ h (stmts_break ss (τ ∷ Γ) [] (0 ∷ a)) (λ c h₁ h₂. no_refusal h₂)
+      stmt_breaks (block ss) own Γ τ a h = fails (check_stmts S r (τ ∷ Γ) [] ss (0 ∷ a)) _ h (stmts_break ss (τ ∷ Γ) [] (0 ∷ a)) (λ c h₁ h₂. cc)
       stmt_breaks (while e s) own Γ τ a h =
           elim (governed (τ ∷ Γ) e a _ h) [
             | inl k ↦ inl k
@@ -79,7 +79,7 @@ module _ (S : Signature) (r : Ty) where
           ]
 
       stmts_break : (ss : Stmts) (Γ : Levels) (τ : Table Ty) (a : List ℕ) → check_stmts S r Γ τ ss a ≡ Err (fault v p Δ) → StmtsBroken S r Γ τ ss (length a) v p Δ
-      stmts_break empty Γ τ a h = no_refusal h
+      stmts_break empty Γ τ a h = cc
       stmts_break (then s ss) Γ τ a h =
           fails (check_stmt S r false Γ τ s a) _ h
           (λ h₁. inl (stmt_breaks s false Γ τ a h₁))
@@ -93,4 +93,4 @@ pub broken_first : (S : Signature) (d : Definition) (v : Violation) (p : ℕ) (�
 broken_first S d v p Δ h =
     fails (body_checked S d) _ (sym (sheet_written S d) ∙ h)
     (λ h₁. subst (λ n. StmtsBroken S d.returns [] (params_level S d) d.body n v p Δ) (blanks_place d.params (0 ∷ [])) (stmts_break S d.returns v p Δ d.body [] (params_level S d) (before_body S d) h₁))
-    (λ c h₁ h₂. no_refusal h₂)
+    (λ c h₁ h₂. cc)

@@ -1,5 +1,6 @@
 -- The checker of expressions answers exactly where a derivation is, with its type and column.
 use Rattle.std.proofs.Common.{◌≡◌, ℕ, eqb, List, [], length, Some, Ok, Err, Result, sym, refl, ap, ◌∙◌, subst}
+use Rattle.std.proofs.lemmas.Bool.{eq-eqb}
 use Rattle.syntax.specs.declared.frame.«Type».{«Type» as Ty}
 use Rattle.syntax.specs.Trees.{Literal, true_literal, false_literal, int_literal, double_literal, string_literal, Operator, Update, Expr, literal, variable, update, call, binary, assign, Exprs, none, more}
 use Rattle.levels.specs.Store.{looked}
@@ -13,7 +14,7 @@ use Rattle.rules.specs.Judge.{arithmetic, row, same, same_all, literal_type, jud
 use Rattle.rules.proofs.Checker.{Typed, ended, check_expr, check_exprs}
 use Rattle.rules.proofs.Stacked.{expr_stacked, arguments_stacked}
 use Rattle.rules.proofs.Rows.{row_some, row_rule, update_some, update_rule}
-use Rattle.rules.proofs.Results.{no_answer, answers_same, bound, needed, required, eqb_self, same_self, same_true, same_all_self, same_all_true}
+use Rattle.rules.proofs.Results.{answers_same, bound, needed, required, same_self, same_true, same_all_self, same_all_true}
 
 -- ===== from the derivation to the checker =====
 module _ (S : Signature) (Γ : Levels) where
@@ -25,7 +26,7 @@ module _ (S : Signature) (Γ : Levels) where
     expr_complete double_typed a = refl
     expr_complete string_typed a = refl
     expr_complete (variable_typed h) a = rw h
-    expr_complete (call_typed {ts = ts} h ds) a = rw (arguments_complete ds a, h, eqb_self (length ts), same_all_self ts)
+    expr_complete (call_typed {ts = ts} h ds) a = rw (arguments_complete ds a, h, eq-eqb (length ts) (length ts) refl, same_all_self ts)
     expr_complete (update_typed h k) a = rw (h, update_some k)
     expr_complete (binary_typed {t = t} d₁ d₂ k) a = rw (expr_complete d₁ a, expr_complete d₂ (expr_stacked d₁ a), same_self t, row_some k)
     expr_complete (assign_typed {t = t} d h) a = rw (expr_complete d a, h, same_self t)
@@ -40,7 +41,6 @@ arguments_judged ts (head us u) k =
     bound (require OtherCount (eqb (length ts) (length us)) >>= λ _. require OtherArgument (same_all ts us)) _ k λ _ h₁ h₂.
     bound (require OtherCount (eqb (length ts) (length us))) _ h₁ λ _ h₃ h₄.
     let e = same_all_true ts us (required OtherArgument (same_all ts us) h₄) in
-    let e' = answers_same h₂ in
     cc
 
 call_judged : (S : Signature) (f : ℕ) (ts : List Ty) {r : Ty} → judge_call S f ts ≡ Ok r → S f ≡ Some (head ts r)
@@ -54,7 +54,6 @@ assign_judged : (Γ : Levels) (x : ℕ) (t : Ty) {r : Ty} → judge_assign Γ x 
 assign_judged Γ x t k = bound (judge_variable Γ x) _ k λ u h₁ h₂. bound (require OtherAssigned (same u t)) _ h₂ λ _ h₃ h₄.
     let e = same_true u t (required OtherAssigned (same u t) h₃) in
     let e' = needed Undeclared (looked Γ x) h₁ in
-    let e'' = answers_same h₄ in
     (cc, cc)
 
 update_judged : (Γ : Levels) (c : Update) (x : ℕ) {r : Ty} → judge_update Γ x ≡ Ok r → (looked Γ x ≡ Some r) × UpdateRule c r
@@ -63,8 +62,8 @@ update_judged Γ c x k = bound (judge_variable Γ x) _ k λ t h₁ h₂.
     (needed Undeclared (looked Γ x) h₁ ∙ ap Some q.1, subst (UpdateRule c) q.1 q.0)
 
 ended_judged : (a : List ℕ) (Γ : Levels) (m : Result Ty Violation) {p : Typed} → ended a Γ m ≡ Ok p → m ≡ Ok p.0
-ended_judged a Γ (Ok t) h = ap (λ (q : Typed). Ok q.0) (answers_same h)
-ended_judged a Γ (Err v) h = no_answer h
+ended_judged a Γ (Ok t) h = cc
+ended_judged a Γ (Err v) h = cc
 
 -- ===== from the checker to the derivation =====
 module _ (S : Signature) (Γ : Levels) where
@@ -77,7 +76,7 @@ module _ (S : Signature) (Γ : Levels) where
 
   mutual
     pub expr_sound : (e : Expr) (a : List ℕ) {p : Typed} → check_expr S Γ e a ≡ Ok p → WellTyped S Γ e p.0
-    expr_sound (literal l) a {p} h = literal_sound l p.0 (ap (λ (q : Typed). q.0) (answers_same h))
+    expr_sound (literal l) a {p} h = literal_sound l p.0 (cc)
     expr_sound (variable x) a h = variable_typed (needed Undeclared (looked Γ x) (ended_judged a Γ _ h))
     expr_sound (update c x) a h = let k = update_judged Γ c x (ended_judged a Γ _ h) in update_typed k.0 k.1
     expr_sound (call f es) a h = bound (check_exprs S Γ es a) _ h λ p h₁ h₂. call_typed (call_judged S f p.0 (ended_judged p.1 Γ _ h₂)) (exprs_sound es a h₁)
@@ -89,9 +88,9 @@ module _ (S : Signature) (Γ : Levels) where
         subst (WellTyped S Γ (assign x e)) k.1 (assign_typed (expr_sound e a h₁) k.0)
 
     pub exprs_sound : (es : Exprs) (a : List ℕ) {p : List Ty × List ℕ} → check_exprs S Γ es a ≡ Ok p → ArgumentsTyped S Γ es p.0
-    exprs_sound none a h = subst (ArgumentsTyped S Γ none) (ap (λ (q : List Ty × List ℕ). q.0) (answers_same h)) no_argument
+    exprs_sound none a h = subst (ArgumentsTyped S Γ none) (cc) no_argument
     exprs_sound (more e es) a h = bound (check_expr S Γ e a) _ h λ p h₁ h₂. bound (check_exprs S Γ es p.1) _ h₂ λ q h₃ h₄.
-        subst (ArgumentsTyped S Γ (more e es)) (ap (λ (q : List Ty × List ℕ). q.0) (answers_same h₄)) (one_argument (expr_sound e a h₁) (exprs_sound es p.1 h₃))
+        subst (ArgumentsTyped S Γ (more e es)) (cc) (one_argument (expr_sound e a h₁) (exprs_sound es p.1 h₃))
 
   -- two derivations of one expression give one type
   pub type_once : {e : Expr} {t u : Ty} → WellTyped S Γ e t → WellTyped S Γ e u → t ≡ u

@@ -27,21 +27,18 @@ number_range OtherReturn = (omega arith, omega arith)
 number_range NoCondition = (omega arith, omega arith)
 
 -- ===== chains that end in a fault =====
-no_fault : {A C : Type 0} {a : A} {x : Fault} → Ok a ≡ Err x → C
-no_fault h = no_answer (sym h)
-
 fails_alike : {A : Type 0} (m : Result State Fault) (f g : State → Result A Fault) (x : Fault) → ((s : State) → f s ≡ Err x → g s ≡ Err x) → (m >>= f) ≡ Err x → (m >>= g) ≡ Err x
 fails_alike (Ok s) f g x h k = h s k
 fails_alike (Err y) f g x h k = k
 
 -- a fault in a list's front is the fault of the list
 front_fails : (S : Signature) (r : Ty) (ms : List Token) (n : ℕ) (s : State) (x : Fault) → walk S r (take n ms) s ≡ Err x → walk S r ms s ≡ Err x
-front_fails S r ms zero s x h = no_fault h
-front_fails S r [] (suc n) s x h = no_fault h
+front_fails S r ms zero s x h = cc
+front_fails S r [] (suc n) s x h = cc
 front_fails S r (m ∷ ms) (suc n) s x h = fails_alike (step S r m s) _ _ x (λ t k. front_fails S r ms n t x k) h
 
 ended_fails : {A : Type 0} (m : Result State Fault) (f : State → A) (x : Fault) → (m >>= λ s. Ok (f s)) ≡ Err x → m ≡ Err x
-ended_fails (Ok s) f x h = no_fault h
+ended_fails (Ok s) f x h = cc
 ended_fails (Err y) f x h = cc
 
 -- ===== where a walk over tokens stops =====
@@ -89,7 +86,7 @@ module _ (S : Signature) (r : Ty) where
       }
 
   stops : (ms : List Token) (s : State) (v : Violation) (p : ℕ) (Γ : Levels) → walk S r ms s ≡ Err (fault v p Γ) → Stop S r ms s v p Γ
-  stops [] s v p Γ h = no_fault h
+  stops [] s v p Γ h = cc
   stops (m ∷ ms) s v p Γ h = go (move S r m s) refl (move_grown S r m s) h (λ t k. stops ms t v p Γ k)
     where
       go : (o : Result State Violation) → move S r m s ≡ o → Passes (Grown s) o → (placed (length s.column) s.levels o >>= λ t. walk S r ms t) ≡ Err (fault v p Γ)

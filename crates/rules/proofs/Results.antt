@@ -10,14 +10,9 @@ use Rattle.rules.specs.Heads.{Levels}
 use Rattle.rules.specs.Faults.{Fault, ◌>>=◌, need, require, placed}
 use Rattle.rules.specs.Judge.{same, same_all}
 
-is_answer : {A E : Type 0} → Result A E → Truth
-is_answer (Ok a) = true
-is_answer (Err x) = false
-
 -- a refusal is no answer
 pub no_answer : {A E C : Type 0} {x : E} {a : A} → Err x ≡ Ok a → C
-unfolding is_answer
-no_answer h = absurd (false≢true (ap is_answer h))
+no_answer h = cc
 
 pub answers_same : {A E : Type 0} {a b : A} → ◌≡◌ {A = Result A E} (Ok a) (Ok b) → a ≡ b
 answers_same h = cc
@@ -25,19 +20,19 @@ answers_same h = cc
 -- the parts of a chain that answered
 pub bound : {A B E C : Type 0} (m : Result A E) (f : A → Result B E) {b : B} → (m >>= f) ≡ Ok b → ((a : A) → m ≡ Ok a → f a ≡ Ok b → C) → C
 bound (Ok a) f h k = k a refl h
-bound (Err x) f h k = no_answer h
+bound (Err x) f h k = cc
 
 pub needed : {A : Type 0} (v : Violation) (o : Option A) {b : A} → need v o ≡ Ok b → o ≡ Some b
-needed v None h = no_answer h
-needed v (Some a) h = ap Some (answers_same h)
+needed v None h = cc
+needed v (Some a) h = cc
 
 pub required : (v : Violation) (b : Truth) {u : Unit {0}} → require v b ≡ Ok u → b ≡ true
 required v true h = refl
-required v false h = no_answer h
+required v false h = cc
 
 pub placed_answer : {A : Type 0} (p : ℕ) (Γ : Levels) (m : Result A Violation) {a : A} → placed p Γ m ≡ Ok a → m ≡ Ok a
-placed_answer p Γ (Ok a) h = ap Ok (answers_same h)
-placed_answer p Γ (Err v) h = no_answer h
+placed_answer p Γ (Ok a) h = cc
+placed_answer p Γ (Err v) h = cc
 
 -- chains
 pub bind_cong : {A B E : Type 0} (m : Result A E) {f g : A → Result B E} → ((a : A) → f a ≡ g a) → (m >>= f) ≡ (m >>= g)
@@ -71,13 +66,10 @@ type_back String = refl
 type_back Void = refl
 
 pub codes_same : (t u : Ty) → type_code t ≡ type_code u → t ≡ u
-codes_same t u h = sym (type_back t) ∙ ap type_of h ∙ type_back u
-
-pub eqb_self : (n : ℕ) → eqb n n ≡ true
-eqb_self n = eq-eqb n n refl
+codes_same t u h = cc (type_back t, type_back u)
 
 pub same_self : (t : Ty) → same t t ≡ true
-same_self t = eqb_self (type_code t)
+same_self t = eq-eqb (type_code t) (type_code t) refl
 
 pub same_true : (t u : Ty) → same t u ≡ true → t ≡ u
 same_true t u h = codes_same t u (eqb-true (type_code t) (type_code u) h)
@@ -88,8 +80,8 @@ same_all_self (t ∷ ts) = and_from (same t t) (same_all ts ts) (same_self t) (s
 
 pub same_all_true : (ts us : List Ty) → same_all ts us ≡ true → ts ≡ us
 same_all_true [] [] h = refl
-same_all_true [] (u ∷ us) h = absurd (false≢true h)
-same_all_true (t ∷ ts) [] h = absurd (false≢true h)
+same_all_true [] (u ∷ us) h = cc
+same_all_true (t ∷ ts) [] h = cc
 same_all_true (t ∷ ts) (u ∷ us) h =
     let p = and_parts (same t u) (same_all ts us) h in
     let e = same_true t u p.0 in

@@ -1,6 +1,6 @@
 -- The checker of statements answers exactly where a derivation is, with its column.
 use Rattle.std.proofs.Common.{◌≡◌, ℕ, Bool as Truth, true, false, cond, not, eqb, List, [], ◌∷◌, length, is_some, Some, None, Ok, Err, Option, Result, sym, refl, ◌∙◌, subst}
-use Rattle.std.proofs.lemmas.Bool.{or_parts, false≢true}
+use Rattle.std.proofs.lemmas.Bool.{or_parts, not-true}
 use Rattle.syntax.specs.declared.frame.«Type».{«Type» as Ty}
 use Rattle.syntax.specs.declared.frame.«Type».TheVariants.{Bool, Void}
 use Rattle.syntax.specs.Trees.{Expr, Stmt, perform, declare, init, return_nothing, return_value, block, while, choose, Stmts, empty, then}
@@ -18,13 +18,9 @@ use Rattle.rules.proofs.Results.{no_answer, answers_same, bound, required, place
 use Rattle.rules.proofs.Expressions.{expr_complete, expr_sound}
 
 -- ===== names =====
-not_true : (b : Truth) → not b ≡ true → b ≡ false
-not_true true h = absurd (false≢true h)
-not_true false h = refl
-
 is_none : {A : Type 0} (o : Option A) → is_some o ≡ false → o ≡ None
 is_none None h = refl
-is_none (Some a) h = absurd (false≢true (sym h))
+is_none (Some a) h = cc
 
 cond_none : {A : Type 0} (b : Truth) (a : A) (o : Option A) → cond b (Some a) o ≡ None → (b ≡ false) × (o ≡ None)
 cond_none true a o h = (cc, cc)
@@ -64,7 +60,7 @@ free_more (y ∷ ys) x earlier h k = (rw h.0 k.0, free_more ys x earlier h.1 k.1
 
 name_judged : (τ : Table Ty) (Γ : Levels) (earlier : List ℕ) (x : ℕ) {u : Unit {0}} → judge_name (τ ∷ Γ) earlier x ≡ Ok u → Lacks τ x × (among earlier x ≡ false)
 name_judged τ Γ earlier x h =
-    let k = or_parts (is_some (find τ x)) (among earlier x) (not_true _ (required Repeated _ h)) in
+    let k = or_parts (is_some (find τ x)) (among earlier x) (not-true _ (required Repeated _ h)) in
     (is_none (find τ x) k.0, k.1)
 
 -- what the names of a declaration owe: none twice, none on the table, none among the earlier ones
@@ -95,7 +91,7 @@ names_complete own Γ τ t earlier (x ∷ xs) a g =
 -- ===== what a judgement that answered says =====
 init_judged : (τ : Table Ty) (Γ : Levels) (t : Ty) (x : ℕ) (v : Ty) {u : Unit {0}} → judge_init (τ ∷ Γ) t x v ≡ Ok u → (t ≡ v) × Lacks τ x
 init_judged τ Γ t x v h = bound (require OtherInitial (same t v)) _ h λ _ h₁ h₂.
-    (same_true t v (required OtherInitial (same t v) h₁), is_none (find τ x) (not_true _ (required Repeated _ h₂)))
+    (same_true t v (required OtherInitial (same t v) h₁), is_none (find τ x) (not-true _ (required Repeated _ h₂)))
 
 return_judged : (r v : Ty) {u : Unit {0}} → judge_return r v ≡ Ok u → r ≡ v
 return_judged r v h = same_true r v (required OtherReturn (same r v) h)
@@ -104,8 +100,8 @@ pub condition_judged : (v : Ty) {u : Unit {0}} → judge_condition v ≡ Ok u �
 condition_judged v h = same_true Bool v (required NoCondition (same Bool v) h)
 
 pub closing_judged : (S : Signature) (r : Ty) (a : List ℕ) (Γ : Levels) (m : Result (Unit {0}) Violation) {c : List ℕ} → closing S r a Γ m ≡ Ok c → (m ≡ Ok tt) × (0 ∷ a ≡ c)
-closing_judged S r a Γ (Ok u) h = (refl, answers_same h)
-closing_judged S r a Γ (Err v) h = no_answer h
+closing_judged S r a Γ (Ok u) h = (refl, cc)
+closing_judged S r a Γ (Err v) h = cc
 
 module _ (S : Signature) (r : Ty) where
   -- ===== from the derivation to the checker =====

@@ -37,11 +37,11 @@ arguments_dropped ts os =
     ∙ drop-append_seam (reverse ts) os
 
 arguments_counted : (S : Signature) (Γ : Levels) (es : Exprs) (a : List ℕ) {p : List Ty × List ℕ} → check_exprs S Γ es a ≡ Ok p → count es ≡ length p.0
-arguments_counted S Γ none a h = ap (λ (q : List Ty × List ℕ). length q.0) (answers_same h)
+arguments_counted S Γ none a h = cc
 arguments_counted S Γ (more e es) a h =
     let ih = λ (b : List ℕ) (q : List Ty × List ℕ) (k : check_exprs S Γ es b ≡ Ok q). arguments_counted S Γ es b k in
     bound (check_expr S Γ e a) _ h λ p h₁ h₂. bound (check_exprs S Γ es p.1) _ h₂ λ q h₃ h₄.
-    ap suc (ih p.1 q h₃) ∙ ap (λ (q : List Ty × List ℕ). length q.0) (answers_same h₄)
+    cc (ih p.1 q h₃)
 
 -- ===== the top after names =====
 -- the top after the first name, and then after all
