@@ -12,7 +12,7 @@ use Rattle.rules.specs.Broken.{NamesBroken}
 use Rattle.rules.proofs.Checker.{check_names}
 use Rattle.rules.proofs.Results.{no_answer}
 use Rattle.rules.proofs.Statements.{free_of_none, names_sound, names_complete}
-use Rattle.rules.proofs.Walks.{kept_rest}
+use Rattle.rules.proofs.Walks.{kept_rest, kept_none}
 use Rattle.rules.proofs.Broken.{fails, requires_false}
 use Rattle.rules.proofs.BrokenExpressions.{placed_fails}
 
@@ -28,10 +28,6 @@ record NamesStop (own : Truth) (Γ : Levels) (τ : Table Ty) (t : Ty) (earlier x
   violation : Repeated ≡ v
   place : p ≡ after_each before (length a)
   left : cond own τ (declare_all t before τ) ∷ Γ ≡ Δ
-
-same_top : (own : Truth) (τ : Table Ty) → cond own τ τ ≡ τ
-same_top true τ = refl
-same_top false τ = refl
 
 names_stop : (own : Truth) (Γ : Levels) (τ : Table Ty) (t : Ty) (earlier xs a : List ℕ) (v : Violation) (p : ℕ) (Δ : Levels) → check_names own Γ τ t earlier xs a ≡ Err (fault v p Δ) → NamesStop own Γ τ t earlier xs a v p Δ
 names_stop own Γ τ t earlier [] a v p Δ h = cc
@@ -53,7 +49,7 @@ names_stop own Γ τ t earlier (x ∷ xs) a v p Δ h =
       stops = ap (λ m. m >>= λ _. check_names own Γ σ t seen [] (0 ∷ a)) h₁;
       violation = (requires_false Repeated _ k.0).1;
       place = k.1;
-      left = ap (λ (ρ : Table Ty). ρ ∷ Γ) (same_top own τ) ∙ k.2;
+      left = ap (λ (ρ : Table Ty). ρ ∷ Γ) (kept_none own τ) ∙ k.2;
     })
     (λ u h₁ h₂.
     let q = ih h₂ in

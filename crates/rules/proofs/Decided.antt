@@ -7,7 +7,7 @@ use Rattle.syntax.specs.Trees.{Stmt, perform, declare, init, return_nothing, ret
 use Rattle.syntax.specs.Writing.{END, write_stmts, written}
 use Rattle.syntax.specs.Limits.{Within}
 use Rattle.syntax.specs.Form.{fine, refused, Verdict, accepted, forms, is_fine, is_sheet}
-use Rattle.syntax.proofs.Exact.{accepted_tree}
+use Rattle.syntax.proofs.Law.{sheet_tree}
 use Rattle.rules.specs.Heads.{Signature, Table, Levels}
 use Rattle.rules.specs.Sequences.{declare_params, ValidDefinition}
 use Rattle.rules.specs.Columns.{sequence_column, column}
@@ -80,13 +80,9 @@ pub walk_decides : WalkDecides
 walk_decides S d c Γ = decided S d c Γ
 
 -- ===== sheets =====
-is_accepted : (v : Verdict) → is_fine v ≡ true → v ≡ accepted
-is_accepted (fine u) h = refl
-is_accepted (refused n p) h = absurd (false≢true h)
-
 -- a sheet is the writing of a definition within the limits
 pub sheet_definition : (fs : List Frame) → is_sheet fs ≡ true → (d : Definition) × Within d × (written d ≡ fs)
-sheet_definition fs h = accepted_tree fs (is_accepted (forms fs) h)
+sheet_definition fs h = let t = sheet_tree fs h in (t.0, t.1.within, t.1.writes)
 
 pub sheet_decides : SheetDecides
 sheet_decides S fs h c Γ =

@@ -11,9 +11,9 @@ use Rattle.rules.specs.Judge.{among, judge_name}
 use Rattle.rules.specs.Broken.{NamesBroken}
 use Rattle.rules.proofs.Checker.{check_names}
 use Rattle.rules.proofs.Stacked.{blanks_stacked}
-use Rattle.rules.proofs.Results.{bind_cong, bind_assoc}
+use Rattle.rules.proofs.Results.{bind_on, bind_cong}
 use Rattle.rules.proofs.Statements.{free_of_none, names_sound, names_complete}
-use Rattle.rules.proofs.Walks.{kept_rest}
+use Rattle.rules.proofs.Walks.{kept_rest, kept_none}
 use Rattle.rules.proofs.BrokenExpressions.{blanks_place}
 
 -- the names remembered after some more
@@ -24,19 +24,14 @@ remembered own earlier (x ∷ xs) = remembered own (cond own (x ∷ earlier) ear
 names_append : (own : Truth) (Γ : Levels) (τ : Table Ty) (t : Ty) (earlier ys zs a : List ℕ)
     → check_names own Γ τ t earlier (ys ++ zs) a ≡ (check_names own Γ τ t earlier ys a >>= λ c. check_names own Γ (cond own τ (declare_all t ys τ)) t (remembered own earlier ys) zs c)
 unfolding remembered
-names_append own Γ τ t earlier [] zs a = ap (λ (σ : Table Ty). check_names own Γ σ t earlier zs a) (same own)
-  where
-    same : (own : Truth) → τ ≡ cond own τ τ
-    same true = refl
-    same false = refl
+names_append own Γ τ t earlier [] zs a = ap (λ (σ : Table Ty). check_names own Γ σ t earlier zs a) (sym (kept_none own τ))
 names_append own Γ τ t earlier (y ∷ ys) zs a =
     let judged = placed (length a) (τ ∷ Γ) (judge_name (τ ∷ Γ) earlier y) in
     let σ = cond own τ ((y, t) ∷ τ) in
     let seen = cond own (y ∷ earlier) earlier in
-    bind_cong judged (λ _.
+    bind_on judged _ _ (λ _.
     names_append own Γ σ t seen ys zs (0 ∷ a)
     ∙ bind_cong (check_names own Γ σ t seen ys (0 ∷ a)) (λ c. ap (λ (ρ : Table Ty). check_names own Γ ρ t (remembered own seen ys) zs c) (kept_rest own t y ys τ)))
-    ∙ sym (bind_assoc judged _ _)
 
 -- a name passes, or fails where it stands
 name_outcome : (own : Truth) (Γ : Levels) (σ : Table Ty) (t : Ty) (seen : List ℕ) (x : ℕ) (rest c : List ℕ)

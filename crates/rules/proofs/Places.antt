@@ -4,12 +4,12 @@ use Rattle.syntax.specs.declared.frame.«Type».{«Type» as Ty}
 use Rattle.syntax.specs.declared.frame.«Type».TheVariants.{Bool, Int, Double, String, Void}
 use Rattle.syntax.specs.Trees.{Expr, Exprs, Stmts, Definition}
 use Rattle.syntax.specs.Writing.{type_code}
+use Rattle.syntax.proofs.Types.{type_code_once}
 use Rattle.rules.specs.Heads.{Signature, Levels}
 use Rattle.rules.specs.Rules.{WellTyped, true_typed, false_typed, int_typed, double_typed, string_typed, variable_typed, call_typed, update_typed, binary_typed, assign_typed, ArgumentsTyped, no_argument, one_argument}
 use Rattle.rules.specs.Sequences.{ValidSequence, empty_valid, perform_valid, declare_valid, init_valid, return_nothing_valid, return_value_valid, block_valid, while_valid, choose_valid, ValidDefinition}
 use Rattle.rules.specs.Columns.{expr_column, arguments_column, blanks, sequence_column, column}
 use Rattle.rules.specs.Places.{after_expr, after_exprs, after_each, after_stmt, after_stmts, ExprGives, ArgumentsGive, SequenceGives, Gives}
-use Rattle.rules.proofs.Results.{codes_same}
 
 -- a list whose first entry stands at n has k at the place p
 abbrev pub At : ℕ → List ℕ → ℕ → ℕ → Type 0
@@ -31,7 +31,7 @@ module _ (p : ℕ) (u : Ty) where
     keeps : At m r p (type_code u) → At n c p (type_code u)
 
   adds_type : (n : ℕ) (t : Ty) (r : List ℕ) → Adds n (type_code t ∷ r) (suc n) r ((p ≡ n) × (t ≡ u))
-  adds_type n t r = record { only = elim [ inl h ↦ inl (h.0, codes_same t u h.1) | inr h ↦ inr h ]; gives = λ h. inl (h.0, ap type_code h.1); keeps = inr }
+  adds_type n t r = record { only = elim [ inl h ↦ inl (h.0, type_code_once t u h.1) | inr h ↦ inr h ]; gives = λ h. inl (h.0, ap type_code h.1); keeps = inr }
 
   adds_nothing : (n : ℕ) (r : List ℕ) → Adds n r n r ⊥
   adds_nothing n r = record { only = inr; gives = absurd; keeps = λ h. h }

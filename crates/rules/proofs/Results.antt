@@ -5,6 +5,7 @@ use Rattle.syntax.specs.declared.frame.«Type».{«Type» as Ty}
 use Rattle.syntax.specs.declared.frame.«Type».TheVariants.{Bool, Int, Double, String, Void}
 use Rattle.syntax.specs.Writing.{type_code}
 use Rattle.syntax.specs.Types.{type_of}
+use Rattle.syntax.proofs.Types.{type_code_once}
 use Rattle.rules.specs.declared.violation.Violation.{Violation}
 use Rattle.rules.specs.Heads.{Levels}
 use Rattle.rules.specs.Faults.{Fault, ◌>>=◌, need, require, placed}
@@ -47,6 +48,11 @@ pub bind_assoc : {A B C E : Type 0} (m : Result A E) (f : A → Result B E) (g :
 bind_assoc (Ok a) f g = refl
 bind_assoc (Err x) f g = refl
 
+-- what is chained to a chain's answer goes on as the rest of that chain does
+pub bind_on : {A B C E : Type 0} (m : Result A E) (f : A → Result B E) (g : B → Result C E) {h : A → Result C E} → ((a : A) → h a ≡ (f a >>= g)) → (m >>= h) ≡ (m >>= f >>= g)
+bind_on (Ok a) f g e = e a
+bind_on (Err x) f g e = refl
+
 pub bind_unit : {A E : Type 0} (m : Result A E) → (m >>= λ a. Ok a) ≡ m
 bind_unit (Ok a) = refl
 bind_unit (Err x) = refl
@@ -65,14 +71,11 @@ type_back Double = refl
 type_back String = refl
 type_back Void = refl
 
-pub codes_same : (t u : Ty) → type_code t ≡ type_code u → t ≡ u
-codes_same t u h = cc (type_back t, type_back u)
-
 pub same_self : (t : Ty) → same t t ≡ true
 same_self t = eq-eqb (type_code t) (type_code t) refl
 
 pub same_true : (t u : Ty) → same t u ≡ true → t ≡ u
-same_true t u h = codes_same t u (eqb-true (type_code t) (type_code u) h)
+same_true t u h = type_code_once t u (eqb-true (type_code t) (type_code u) h)
 
 pub same_all_self : (ts : List Ty) → same_all ts ts ≡ true
 same_all_self [] = refl

@@ -4,12 +4,13 @@ use Rattle.syntax.specs.declared.frame.«Type».{«Type» as Ty}
 use Rattle.syntax.specs.declared.frame.«Type».TheVariants.{Bool, Int, Double, String}
 use Rattle.syntax.specs.Trees.{Expr, Exprs, Stmts, Definition}
 use Rattle.syntax.specs.Writing.{type_code}
+use Rattle.syntax.proofs.Types.{type_code_once}
 use Rattle.rules.specs.Heads.{Signature, Levels}
 use Rattle.rules.specs.Rules.{WellTyped, true_typed, false_typed, int_typed, double_typed, string_typed, variable_typed, call_typed, update_typed, binary_typed, assign_typed, ArgumentsTyped, no_argument, one_argument}
 use Rattle.rules.specs.Sequences.{ValidSequence, empty_valid, perform_valid, declare_valid, init_valid, return_nothing_valid, return_value_valid, block_valid, while_valid, choose_valid, ValidDefinition}
 use Rattle.rules.specs.Columns.{expr_column, arguments_column, blanks, sequence_column, column}
 use Rattle.rules.specs.Typed.{TypeOnce, ColumnTypes, TypesAgree, ColumnBlank}
-use Rattle.rules.proofs.Results.{answers_same, codes_same}
+use Rattle.rules.proofs.Results.{answers_same}
 use Rattle.rules.proofs.Expressions.{type_once}
 use Rattle.rules.proofs.Decided.{walk_derived}
 use Rattle.rules.proofs.Places.{At, code_not_zero, at_gives}
@@ -51,7 +52,7 @@ column_once S d D D' = ap (λ (p : List ℕ × Levels). p.0) (answers_same (sym 
 
 pub types_agree : TypesAgree
 types_agree S d D D' p u v g h =
-    codes_same u v (sym ((column_types S d D p u).1 g) ∙ ap (λ c. get_or c p 0) (column_once S d D D') ∙ (column_types S d D' p v).1 h)
+    type_code_once u v (sym ((column_types S d D p u).1 g) ∙ ap (λ c. get_or c p 0) (column_once S d D D') ∙ (column_types S d D' p v).1 h)
 
 -- ===== every entry is 0 or the number of a type =====
 abbrev IsType : ℕ → Type 0
