@@ -5,7 +5,6 @@ use Rattle.std.proofs.lemmas.Bool.{cond-true, cond-false, cases_eq, cases_lt, eq
 use Rattle.levels.specs.Store.{find}
 use Rattle.rules.specs.Heads.{Signature}
 use Rattle.rules.specs.Books.{Book, sheet_head, book_heads, AllSheets, NamesApart, ParamsApart, AllWalked}
-use Rattle.rules.proofs.Rows.{none_some, somes_same}
 use Rattle.rules.proofs.Books.{book_decides}
 use Rattle.history.specs.Words.{or_else, lowest, map_some, filled}
 use Rattle.history.specs.Language.{head_for, heads_of, Entries, signature, signatures, heads_in, BookDerives}
@@ -56,13 +55,13 @@ module _ (S : Signature) (e : Entries cpp) where
   trees_next : (k : ℕ) (x : Option Sheet) → e k ≡ x → AllWalked S (with_sheet x (sheets_below k e)) → (AllWalked S (sheets_below k e) → Trees k) → Trees (suc k)
   trees_next k None i w ih t s l j =
       elim (cases_eq t k) [
-        | inl y ↦ none_some (sym i ∙ ap e (sym y) ∙ j)
+        | inl y ↦ cc
         | inr y ↦ ih w t s (omega arith) j
       ]
   trees_next k (Some r) i w ih t s l j =
       elim (cases_eq t k) [
         | inl y ↦
-            let m : r ≡ s = somes_same (sym i ∙ ap e (sym y) ∙ j) in
+            let m : r ≡ s = cc in
             subst (Derivation S) m (tree_walk S r w.0.0 w.0.1 w.0.2)
         | inr y ↦ ih w.1 t s (omega arith) j
       ]
@@ -83,8 +82,7 @@ module _ (e : Entries cpp) (ok : Orderly cpp e) where
   -- no lower sheet has the name
   name_free : (k : ℕ) (s : Sheet) (n : ℕ) → e k ≡ Some s → name_of s ≡ n → lowest k (at n) ≡ None
   name_free k s n i j =
-      let own : filled (at n k) ≡ true =
-      ap (λ x. filled (head_for n (map_some (signature cpp) x))) i ∙ ap filled (cond-true (eqb (name_of s) n) (Some (head_number s)) None (eq-eqb (name_of s) n j)) in
+      let own : filled (at n k) ≡ true = rw (i, eq-eqb (name_of s) n j) refl in
       lowest_none k (at n) (λ t l. alone_of (signatures cpp e) k n ok.apart own t (λ m. omega arith))
 
   -- one sheet more in the program and in the book
@@ -93,18 +91,8 @@ module _ (e : Entries cpp) (ok : Orderly cpp e) where
   found_next k n None i ih = ih ∙ ap (map_some head_from) (sym (or_else_none (lowest k (at n))))
   found_next k n (Some s) i ih =
       elim (cases_eq (name_of s) n) [
-        | inl y ↦
-            let t = eq-eqb (name_of s) n y in
-            cond-true (eqb (name_of s) n) (Some (sheet_head s.frames)) (find (book_heads (sheets_below k e)) n) t
-            ∙ ap Some (sym (head_stands s))
-            ∙ sym (ap (map_some head_from)
-            (ap (λ o. or_else o (head_for n (Some (signature cpp s)))) (name_free k s n i y) ∙ cond-true (eqb (name_of s) n) (Some (head_number s)) None t))
-        | inr y ↦
-            let f = ne_eqb (name_of s) n y in
-            cond-false (eqb (name_of s) n) (Some (sheet_head s.frames)) (find (book_heads (sheets_below k e)) n) f
-            ∙ ih
-            ∙ sym (ap (map_some head_from)
-            (ap (or_else (lowest k (at n))) (cond-false (eqb (name_of s) n) (Some (head_number s)) None f) ∙ or_else_none (lowest k (at n))))
+        | inl y ↦ rw (eq-eqb (name_of s) n y, name_free k s n i y) (ap Some (sym (head_stands s)))
+        | inr y ↦ rw (ne_eqb (name_of s) n y, or_else_none (lowest k (at n))) ih
       ]
 
   -- the program gives a name the head that the lowest sheet with that name has
@@ -145,7 +133,7 @@ module _ (e : Entries cpp) (ok : Orderly cpp e) where
   below_32 t s i =
       elim (cases_lt t 32) [
         | inl l ↦ l
-        | inr l ↦ none_some (sym (ok.small t l) ∙ i)
+        | inr l ↦ cc (ok.small t l)
       ]
 
   -- ## both ways

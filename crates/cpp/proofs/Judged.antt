@@ -12,7 +12,7 @@ use Rattle.rules.specs.Walk.{walk_sheet}
 use Rattle.rules.specs.Typed.{column_left}
 use Rattle.rules.specs.Calls.{calls}
 use Rattle.rules.specs.Calls as walked
-use Rattle.rules.proofs.Rows.{none_some, somes_same}
+use Rattle.syntax.proofs.TokenFrames.{type_coded}
 use Rattle.rules.proofs.Places.{code_not_zero}
 use Rattle.rules.proofs.Decided.{walk_derived, sheet_decides}
 use Rattle.rules.proofs.Long.{column_long}
@@ -84,16 +84,6 @@ code_is_type Double = refl
 code_is_type String = refl
 code_is_type Void = refl
 
--- and each of these numbers is one
-type_has_code : (n : ℕ) → 0 < n → n < 6 → (u : Ty) × (type_code u ≡ n)
-type_has_code zero l h = absurd (omega arith)
-type_has_code (suc zero) l h = (Boolean, refl)
-type_has_code (suc (suc zero)) l h = (Int, refl)
-type_has_code (suc (suc (suc zero))) l h = (Double, refl)
-type_has_code (suc (suc (suc (suc zero)))) l h = (String, refl)
-type_has_code (suc (suc (suc (suc (suc zero))))) l h = (Void, refl)
-type_has_code (suc (suc (suc (suc (suc (suc n)))))) l h = absurd (omega arith)
-
 -- a number that counts as a type is the code of one
 type_of_number : (n v : ℕ) → as_type n ≡ Some v → (n ≡ v) × ((u : Ty) × (type_code u ≡ v))
 type_of_number n v e = go (ltb 0 n && ltb n 6) refl e
@@ -101,10 +91,10 @@ type_of_number n v e = go (ltb 0 n && ltb n 6) refl e
     go : (b : Bool) → (ltb 0 n && ltb n 6) ≡ b → cond b (Some n) None ≡ Some v → (n ≡ v) × ((u : Ty) × (type_code u ≡ v))
     go true i e =
         let p = and_parts (ltb 0 n) (ltb n 6) i in
-        let j : n ≡ v = somes_same e in
-        let s = type_has_code n (ltb-true 0 n p.0) (ltb-true n 6 p.1) in
+        let j : n ≡ v = cc in
+        let s = type_coded n (omega (arith, ltb-true 0 n p.0)) (omega (arith, ltb-true n 6 p.1)) in
         (j, (s.0, s.1 ∙ j))
-    go false i e = none_some e
+    go false i e = cc
 
 module _ (h : Heads) (s : Sheet) (n : Derivation (signature_from h) s) where
   -- the column of the derivation
@@ -143,7 +133,7 @@ module _ (h : Heads) (s : Sheet) (n : Derivation (signature_from h) s) where
           let l : p < length own = omega (arith, ltb-true p (length s.frames) i, length_column (signature_from h) s n) in
           let c : get_or own p 0 ≡ type_code a.1.0 = sym (own_front p l) ∙ a.0 ∙ sym a.1.1 in
           (a.1.0, a.1.1, (column_types (signature_from h) n.definition n.tree p a.1.0).0 c)
-      go false i e = none_some e
+      go false i e = cc
 
   -- and the other way round
   said : (p v : ℕ) → GivesNumber (signature_from h) s n p v → type_at (length s.frames) padded p ≡ Some v

@@ -1,7 +1,7 @@
 -- The first repeat is the lowest place of a name that stands among those before it.
 use Rattle.std.proofs.Common.{◌≡◌, ℕ, suc, ◌<◌, ◌≤◌, Bool, true, false, cond, eqb, ◌↔◌, List, [], ◌∷◌, ◌++◌, length, get_or, Some, None, Option, sym, refl, ap, ◌∙◌, subst, inl, inr, arith}
 use Rattle.std.proofs.lemmas.List.{append_assoc, length-append, length_push, get_or_append_left, get_or_push, get_or_at}
-use Rattle.std.proofs.lemmas.Bool.{cases_lt, cases_eq, eq-eqb, eqb-true, or_cases, or_left, or_right, true≢false, false≢true}
+use Rattle.std.proofs.lemmas.Bool.{cases_order, cases_lt, cases_eq, eq-eqb, eqb-true, or_cases, or_left, or_right, true≢false, false≢true}
 use Rattle.history.specs.Words.{any_of}
 use Rattle.cpp.specs.Heads.{first_repeat}
 use Rattle.cpp.specs.Tells.{RepeatsAt, LowestRepeat}
@@ -85,12 +85,10 @@ scan before seen (x ∷ xs) n e t =
 lowest_once : (ns : List ℕ) (p : ℕ) (o : Option ℕ) → Outcome ns 0 o → LowestRepeat ns p → o ≡ Some p
 lowest_once ns p None h f = absurd (h f.0 (omega arith) f.2)
 lowest_once ns p (Some q) h f =
-    elim (cases_lt h.0 f.0) [
-      | inl l ↦ absurd (f.3 h.0 l h.3)
-      | inr l ↦ elim (cases_lt f.0 h.0) [
-        | inl m ↦ absurd (h.4 f.0 (omega arith) m f.2)
-        | inr m ↦ (let i : h.0 ≡ f.0 = omega arith in ap Some (h.1 ∙ ap suc i ∙ sym f.1))
-      ]
+    elim (cases_order h.0 f.0) [
+      | inl i ↦ cc (i, h.1, f.1)
+      | inr (inl l) ↦ absurd (f.3 h.0 l h.3)
+      | inr (inr m) ↦ absurd (h.4 f.0 (omega arith) m f.2)
     ]
 
 -- of any names

@@ -59,10 +59,6 @@ module _ (text : List ℕ) (before : List Frame) (fs : List Frame) (rest : List 
         kept = drop_at fs (drop (length fs) before) (length fs) refl;
       }
 
--- something left is not nothing
-no_rest : {C : Type 0} {b : ℕ} {bs : List ℕ} → b ∷ bs ≡ [] → C
-no_rest e = cc
-
 -- an answer that reading gives, as read would
 record Own (text : List ℕ) (before fs : List Frame) (answer : Result (List Frame) Fault) : Type 0 where
   own : Result ℕ SyntaxFault
@@ -78,14 +74,14 @@ own_answer text before fs (x ∷ xs) w = go (eqb (length fs) (length before)) re
     go true e =
         record {
           own = Err (FramesFull (length fs));
-          happens = (refl, refl, (x ∷ xs, (no_rest, begun text before fs (x ∷ xs) w, inl (refl, eqb-true (length fs) (length before) e))));
+          happens = (refl, refl, (x ∷ xs, ((λ e. cc), begun text before fs (x ∷ xs) w, inl (refl, eqb-true (length fs) (length before) e))));
           answers = refl;
         }
     go false e =
         let l : length fs < length before = (let ne = eqb-false (length fs) (length before) e in omega (arith, w.few, ne)) in
         record {
           own = Err (BadLine (length fs));
-          happens = (refl, refl, (x ∷ xs, (no_rest, begun text before fs (x ∷ xs) w, inr (refl, l, w.stop l))));
+          happens = (refl, refl, (x ∷ xs, ((λ e. cc), begun text before fs (x ∷ xs) w, inr (refl, l, w.stop l))));
           answers = refl;
         }
 

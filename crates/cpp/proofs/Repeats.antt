@@ -4,7 +4,6 @@ use Rattle.std.proofs.lemmas.Bool.{cond-false, or_parts, or_from}
 use Rattle.rules.specs.Sequences.{NotIn, Distinct}
 use Rattle.rules.specs.Programs.{param_names}
 use Rattle.rules.specs.Books.{sheet_params}
-use Rattle.rules.proofs.Rows.{none_some}
 use Rattle.history.specs.Words.{any_of}
 use Rattle.cpp.specs.Sheet.{Sheet}
 use Rattle.cpp.specs.Heads.{first_repeat, repeated_in}
@@ -31,7 +30,7 @@ no_repeat p seen (x ∷ xs) e = go (any_of (λ y. eqb y x) seen) refl e (λ k. n
   where
     go : (b : Bool) → any_of (λ y. eqb y x) seen ≡ b → cond b (Some p) (first_repeat (suc p) (x ∷ seen) xs) ≡ None →
         (first_repeat (suc p) (x ∷ seen) xs ≡ None → Distinct xs × Outside (x ∷ seen) xs) → Distinct (x ∷ xs) × Outside seen (x ∷ xs)
-    go true i h ih = none_some (sym h)
+    go true i h ih = cc
     go false i h ih =
         let r = ih h in
         let q = outside_more x seen xs r.1 in

@@ -6,7 +6,6 @@ use Rattle.syntax.specs.Trees.{Definition}
 use Rattle.syntax.specs.Writing.{written}
 use Rattle.syntax.specs.Limits.{Within}
 use Rattle.syntax.specs.Form.{fine, refused, Verdict, accepted, forms, is_fine, is_sheet}
-use Rattle.rules.proofs.Results.{no_answer, answers_same}
 use Rattle.rules.proofs.Decided.{sheet_definition}
 use Rattle.history.specs.Language.{Fault}
 use Rattle.cpp.specs.Sheet.{Sheet, formed_by, form}
@@ -46,18 +45,14 @@ form_again s = formed_again s.frames s.formed (forms s.frames) refl
 
 -- so a sheet is its frames
 pub sheets_same : (s t : Sheet) → s.frames ≡ t.frames → s ≡ t
-sheets_same s t e = answers_same (sym (form_again s) ∙ ap form e ∙ form_again t)
+sheets_same s t e = cc (form_again s, form_again t)
 
 -- ## form and its verdict
 
--- accepted is not refused
-no_verdict : {C : Type 0} {n p : ℕ} → ◌≡◌ {A = Verdict} accepted (refused n p) → C
-no_verdict e = cc
-
 -- a sheet answered is of accepted frames
 formed_accepted : (fs : List Frame) (v : Verdict) (e : forms fs ≡ v) (s : Sheet) → formed_by fs v e ≡ Ok s → (v ≡ accepted) × (s.frames ≡ fs)
-formed_accepted fs (fine u) e s h = (refl, sym (ap (λ (q : Sheet). q.frames) (answers_same h)))
-formed_accepted fs (refused n p) e s h = no_answer h
+formed_accepted fs (fine u) e s h = (refl, cc)
+formed_accepted fs (refused n p) e s h = cc
 
 -- the verdict is a refusal with these numbers
 abbrev RefusesAs : Verdict → Fault → Type 0
@@ -65,21 +60,18 @@ RefusesAs v f = (v ≡ refused f.number f.place) × (f.layer ≡ 2) × (f.sheet 
 
 -- a fault answered is the refusal
 formed_refused : (fs : List Frame) (v : Verdict) (e : forms fs ≡ v) (f : Fault) → formed_by fs v e ≡ Err f → RefusesAs v f
-formed_refused fs (fine u) e f h = no_answer (sym h)
+formed_refused fs (fine u) e f h = cc
 formed_refused fs (refused n p) e f h =
     let i : record { number = n; layer = 2; sheet = 255; place = p } ≡ f = cc in
     subst (RefusesAs (refused n p)) i (refl, refl, refl)
 
 -- and the other way round
 refused_formed : (fs : List Frame) (v : Verdict) (e : forms fs ≡ v) (f : Fault) → RefusesAs v f → formed_by fs v e ≡ Err f
-refused_formed fs (fine u) e f h = no_verdict h.0
+refused_formed fs (fine u) e f h = cc h.0
 refused_formed fs (refused n p) e f h =
-    let r = h.0 in
-    let i : n ≡ f.number = cc in
-    let j : p ≡ f.place = cc in
-    let l = h.1 in
-    let s = h.2 in
-    λ k. Err (record { number = i k; layer = sym l k; sheet = sym s k; place = j k })
+    let i : n ≡ f.number = cc h.0 in
+    let j : p ≡ f.place = cc h.0 in
+    λ k. Err (record { number = i k; layer = sym h.1 k; sheet = sym h.2 k; place = j k })
 
 -- of all frames
 pub forms_tied : FormsTied

@@ -34,10 +34,6 @@ same_not t u h e = cc (same_self t)
 same_all_not : (ts us : List Ty) → same_all ts us ≡ false → ts ≡ us → ⊥
 same_all_not ts us h e = cc (same_all_self ts)
 
-lacks_not : (o : Option Ty) → not (is_some o) ≡ false → o ≡ None → ⊥
-lacks_not None h e = cc
-lacks_not (Some t) h e = cc
-
 -- ===== judgements that fail =====
 pub variable_fails : (Γ : Levels) (x : ℕ) {v : Violation} → judge_variable Γ x ≡ Err v → VariableBroken Γ x v
 variable_fails Γ x h = let k = needs_none Undeclared (looked Γ x) h in subst (VariableBroken Γ x) k.1 (undeclared k.0)
@@ -88,7 +84,7 @@ init_fails τ Γ t x u h =
     (λ h₁. let k = requires_false OtherInitial _ h₁ in subst (InitBroken τ t x u) k.1 (other_initial (same_not t u k.0)))
     (λ _ h₁ h₂.
     let k = requires_false Repeated _ h₂ in
-    subst (InitBroken τ t x u) k.1 (initial_repeated (same_true t u (required OtherInitial _ h₁)) (lacks_not (find τ x) k.0)))
+    subst (InitBroken τ t x u) k.1 (initial_repeated (same_true t u (required OtherInitial _ h₁)) (λ e. cc k.0)))
 
 pub return_fails : (r u : Ty) {v : Violation} → judge_return r u ≡ Err v → ReturnBroken r u v
 return_fails r u h = let k = requires_false OtherReturn _ h in subst (ReturnBroken r u) k.1 (other_return (same_not r u k.0))

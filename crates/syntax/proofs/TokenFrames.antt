@@ -28,7 +28,7 @@ frame_equal k a b c = λ i. frame k (a i) (b i) (c i)
 lacking_zero : (n : ℕ) → In lacking n → 0 ≡ n
 lacking_zero n h = omega arith
 
-type_coded : (t : ℕ) → 1 ≤ t → t ≤ 5 → (u : Ty) × (type_code u ≡ t)
+pub type_coded : (t : ℕ) → 1 ≤ t → t ≤ 5 → (u : Ty) × (type_code u ≡ t)
 type_coded zero h k = absurd (omega arith)
 type_coded (suc zero) h k = (BoolType, refl)
 type_coded (suc (suc zero)) h k = (Int, refl)
