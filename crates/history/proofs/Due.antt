@@ -42,9 +42,9 @@ module _ {Frame Def Text : Type 0} (L : Language Frame Def Text) where
   step_to p (Err f) t e = inr e
   step_to p (Ok a) t e =
       elim (cases_Bool (walks L p a t)) [
-        | inl y ↦ absurd (both_ways (since_by p (Ok a) t) (cond-true (walks L p a t) false (touches L p.entries a t || p.since t) y) e)
+        | inl y ↦ cc (rw y at e)
         | inr y ↦
-            elim (or_cases (touches L p.entries a t) (p.since t) (sym (cond-false (walks L p a t) false (touches L p.entries a t || p.since t) y) ∙ e)) [
+            elim (or_cases (touches L p.entries a t) (p.since t) (rw y at e)) [
               | inl z ↦ inl (a, refl, z)
               | inr z ↦ inr z
             ]

@@ -82,6 +82,6 @@ heads_altered g s w l apart free n =
             | inr z ↦
                 let p = filled_none (head_for n (g s)) y in
                 let q = filled_none (head_for n w) z in
-                ap (λ o. differ o (heads_of (updated g s w) n)) (heads_updated_none g s n w p q) ∙ differ_self (heads_of (updated g s w) n) ∙ sym (ap₂ differ p q)
+                cc (heads_updated_none g s n w p q, differ_self (heads_of (updated g s w) n))
           ]
     ]

@@ -1,6 +1,6 @@
 -- The type reader and its questions answer as the law says.
-use Rattle.std.proofs.Common.{◌≡◌, ℕ, ◌-◌, ◌<◌, ◌≤◌, Bool, true, false, cond, ◌&&◌, ltb, ◌↔◌, List, length, get_or, replicate, Some, None, Ok, Err, Option, sym, refl, ap, ◌∙◌, subst, ap₂, inl, inr, arith}
-use Rattle.std.proofs.lemmas.Bool.{cond-true, cond-false, cases_Bool, lt-ltb, le-ltb, ltb-true}
+use Rattle.std.proofs.Common.{◌≡◌, ℕ, ◌-◌, ◌<◌, ◌≤◌, Bool, true, cond, ◌&&◌, ltb, ◌↔◌, List, length, get_or, replicate, Some, None, Ok, Err, Option, refl, ap, ◌∙◌, subst, inl, inr, arith}
+use Rattle.std.proofs.lemmas.Bool.{and_parts, cond-true, cond-false, cases_Bool, lt-ltb, le-ltb, ltb-true}
 use Rattle.std.proofs.lemmas.List.{get_or_append_left}
 use Rattle.history.specs.Language.{Heads, column_of, Blame, as_type, Language, size, image, heads_in}
 use Rattle.history.specs.Calls.{refusal, sized, reader_refusal, History}
@@ -11,20 +11,18 @@ use Rattle.history.specs.Working.{State, record_at, type_asked, asked}
 use Rattle.history.specs.Stands.{record_of, image_at, column_at, Row, Stands}
 use Rattle.history.specs.Known.{Known}
 use Rattle.history.specs.Readable.{Typed, Readable}
+use Rattle.history.proofs.Words.{cond_parts}
 use Rattle.history.proofs.Sounds.{sound}
 use Rattle.history.proofs.Valid.{valid_words}
 use Rattle.history.proofs.Decides.{derives, decides}
 
 -- two tests, or the first alone where the second holds
 both_first : {X : Type 0} (a b : Bool) (x : Option X) (u : X) → cond (a && b) x None ≡ Some u → cond a x None ≡ Some u
-both_first true true x u e = e
-both_first true false x u e = cc
-both_first false b x u e = e
+both_first a b x u e = let c = cond_parts (a && b) x e in rw (and_parts a b c.0).0 c.1
 
 -- where the second test holds the first decides
 first_both : {X : Type 0} (a b : Bool) (x : Option X) (u : X) → b ≡ true → cond a x None ≡ Some u → cond (a && b) x None ≡ Some u
-first_both true b x u i e = ap (λ q. cond q x None) i ∙ e
-first_both false b x u i e = e
+first_both a b x u i e = let c = cond_parts a x e in rw (c.0, i) c.1
 
 module _ {Frame Def Text : Type 0} (L : Language Frame Def Text) (K : Known L) where
   open L use {blank, expression, writing, Tree, Gives}
@@ -43,12 +41,8 @@ module _ {Frame Def Text : Type 0} (L : Language Frame Def Text) (K : Known L) w
   asked_said : (book : State Frame) (s k : ℕ) (d : Def) (v : Blame) (b : Bool) (c : List ℕ) → part s book.frames ≡ image L d → part s book.column ≡ c → type_asked L book s k (Some (record_of L d v b)) ≡ said d c k
   asked_said book s k d v b c f e =
       elim (cases_Bool (ltb k (size L d))) [
-        | inl y ↦
-            ap₂ (λ g n. cond (ltb k (size L d) && expression g) (as_type n) None)
-            (ap (λ q. get_or q k blank) f ∙ image_place d k (ltb-true k (size L d) y)) (ap (λ q. get_or q k 0) e)
-        | inr y ↦
-            ap (λ q. cond (q && expression (get_or (part s book.frames) k blank)) (as_type (get_or (part s book.column) k 0)) None) y
-            ∙ sym (ap (λ q. cond (q && expression (get_or (writing d) k blank)) (as_type (get_or c k 0)) None) y)
+        | inl y ↦ cc (image_place d k (ltb-true k (size L d) y))
+        | inr y ↦ rw y refl
       ]
 
   -- on a valid definition it is what every derivation gives

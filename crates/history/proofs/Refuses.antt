@@ -1,20 +1,16 @@
 -- Which fault each refused call tells.
-use Rattle.std.proofs.Common.{◌≡◌, ℕ, ◌<◌, Bool, true, false, not, ◌||◌, ltb, ◌⊎◌, None, Ok, Err, Result, sym, refl, ap, ◌∙◌, inl, inr, arith}
+use Rattle.std.proofs.Common.{◌≡◌, ℕ, ◌<◌, true, false, not, ◌||◌, ltb, ◌⊎◌, None, Ok, Err, Result, sym, refl, ap, ◌∙◌, inl, inr, arith}
 use Rattle.std.proofs.lemmas.Bool.{cases_Bool, lt-ltb, le-ltb, or_left, or_right}
-use Rattle.history.specs.Words.{updated, lowest, map_some, filled}
-use Rattle.history.specs.Language.{Fault, Signatures, head_for, Language, signature, signatures}
-use Rattle.history.specs.Calls.{refusal, sized, History, Act, Act.wrote, Act.emptied, Act.walked, guard, unless_repeated, elsewhere, putting, formed, posting, clearing, checking, outcome, Answer.refused}
+use Rattle.history.specs.Words.{updated, lowest, filled}
+use Rattle.history.specs.Language.{Fault, Signatures, head_for, Language, signatures}
+use Rattle.history.specs.Calls.{refusal, sized, History, Act, Act.wrote, Act.emptied, guard, unless_repeated, elsewhere, putting, formed, posting, clearing, checking, outcome, Answer.refused}
 use Rattle.history.specs.Plain.{Plain, plain, told}
 use Rattle.history.specs.Refuses.{NameTaken, Refuses}
 use Rattle.history.proofs.Words.{updated_other, lowest_none_at, filled_none}
-use Rattle.history.proofs.Accepts.{guard_passed, both_passed, named, nowhere}
+use Rattle.history.proofs.Accepts.{both_passed, named, nowhere}
 
 module _ {Frame Def Text : Type 0} (L : Language Frame Def Text) where
   open L use {name, head, repeated, form, reads}
-
-  -- a test that holds refuses
-  guard_refused : (b : Bool) (f : Fault) (r : Result (Act L) Fault) → b ≡ true → guard L b f r ≡ Err f
-  guard_refused b f r e = ap (λ q. guard L q f r) e
 
   -- a refused call tells its refusal
   told_err : (p : Plain L) (r : Result (Act L) Fault) (f : Fault) → r ≡ Err f → told L p r ≡ refused f
@@ -32,13 +28,11 @@ module _ {Frame Def Text : Type 0} (L : Language Frame Def Text) where
 
     -- the first two tests, of a call that names a sheet
     first_31 : (s fl cl : ℕ) (r : Result (Act L) Fault) → 31 < s → guard L (ltb 31 s) (refusal 31 s) (guard L (not (sized fl cl)) (refusal 32 s) r) ≡ Err (refusal 31 s)
-    first_31 s fl cl r l = guard_refused (ltb 31 s) (refusal 31 s) (guard L (not (sized fl cl)) (refusal 32 s) r) (lt-ltb 31 s l)
+    first_31 s fl cl r l = rw (lt-ltb 31 s l) refl
 
     -- 32 of a call that names a sheet
     second_32 : (s fl cl : ℕ) (r : Result (Act L) Fault) → s < 32 → sized fl cl ≡ false → guard L (ltb 31 s) (refusal 31 s) (guard L (not (sized fl cl)) (refusal 32 s) r) ≡ Err (refusal 32 s)
-    second_32 s fl cl r l e =
-        guard_passed L (ltb 31 s) (refusal 31 s) (guard L (not (sized fl cl)) (refusal 32 s) r) (le-ltb 31 s (omega arith))
-        ∙ guard_refused (not (sized fl cl)) (refusal 32 s) r (ap not e)
+    second_32 s fl cl r l e = rw (le-ltb 31 s (omega arith), e) refl
 
     -- a taken name is found
     taken : (s n : ℕ) → NameTaken L (plain L h).entries s n → elsewhere L signed s n ≡ true
@@ -65,12 +59,11 @@ module _ {Frame Def Text : Type 0} (L : Language Frame Def Text) where
           put_32 = λ s d fl cl l e. told_err p (putting L signed s d fl cl) (refusal 32 s) (second_32 s fl cl (names s d) l e);
           put_33 = λ s d l w.
               told_err p (putting L signed s d 8192 8192) (refusal 33 s)
-              (both_passed L s 8192 8192 (names s d) l refl refl ∙ guard_refused (elsewhere L signed s (name d)) (refusal 33 s) (unless_repeated L (repeated d) s (wrote s d)) (taken s (name d) w));
+              (both_passed L s 8192 8192 (names s d) l refl refl ∙ rw (taken s (name d) w) refl);
           put_34 = λ s d k l free e.
               told_err p (putting L signed s d 8192 8192) (record { number = 34; layer = 3; sheet = s; place = k })
               (both_passed L s 8192 8192 (names s d) l refl refl
-              ∙ guard_passed L (elsewhere L signed s (name d)) (refusal 33 s) (unless_repeated L (repeated d) s (wrote s d)) (nowhere L h s (name d) free)
-              ∙ ap (λ o. unless_repeated L o s (wrote s d)) e);
+              ∙ rw (nowhere L h s (name d) free, e) refl);
           post_read = λ s t room fl cl f e.
               told_err p (posting L signed s (formed L (reads t room)) fl cl) (record { number = f.number; layer = f.layer; sheet = s; place = f.place })
               (ap (λ o. posting L signed s (formed L o) fl cl) e);
@@ -83,9 +76,9 @@ module _ {Frame Def Text : Type 0} (L : Language Frame Def Text) where
           clear_35 = λ s l i.
               told_err p (clearing L signed s 8192 8192) (refusal 35 s)
               (both_passed L s 8192 8192 _ l refl refl
-              ∙ guard_refused (not (filled (signed s))) (refusal 35 s) (Ok (emptied s)) (ap (λ x. not (filled (map_some (signature L) x))) i));
+              ∙ rw i refl);
           check_32 = λ fl cl a b e.
-              told_err p (checking L fl cl a b) (refusal 32 255) (guard_refused (not (sized fl cl)) (refusal 32 255) (guard L (ltb a 256 || ltb b 256) (refusal 39 255) (Ok walked)) (ap not e));
+              told_err p (checking L fl cl a b) (refusal 32 255) (rw e refl);
           check_39 = λ a b w.
-              told_err p (checking L 8192 8192 a b) (refusal 39 255) (guard_refused (ltb a 256 || ltb b 256) (refusal 39 255) (Ok walked) (small_store a b w));
+              told_err p (checking L 8192 8192 a b) (refusal 39 255) (rw (small_store a b w) refl);
         }

@@ -5,7 +5,7 @@ use Rattle.history.specs.Words.{lowest, count_below, filled}
 use Rattle.history.specs.Language.{Fault, Verdict, Verdict.bad, Heads, heads_of, column_of, blame, Language}
 use Rattle.history.specs.Calls.{Call, Act.walked, outcome, Answer, Answer.checked}
 use Rattle.history.specs.Areas.{part}
-use Rattle.history.specs.Working.{Record, State, record_at, working_signatures, due_flag, kept_fault, walked_record, fits, walked_again, settled, walked_column, checked_record, checked_column, working_fault, working_after, working_stepped, working_told}
+use Rattle.history.specs.Working.{Record, State, record_at, working_signatures, due_flag, kept_fault, fits, walked_again, settled, walked_column, checked_record, checked_column, working_fault, working_after, working_stepped, working_told}
 use Rattle.history.specs.Runs.{Does}
 use Rattle.history.specs.Known.{Known}
 use Rattle.history.specs.Settles.{counted, FormsAs, Renewed, SheetSettles, Settles}
@@ -83,12 +83,8 @@ module _ {Frame Def Text : Type 0} (L : Language Frame Def Text) (K : Known L) w
     -- a due sheet gets the verdict of its frames formed again
     renewed : (t : ℕ) (r : Record) (v : Verdict) → t < 32 → record_at book t ≡ Some r → r.due ≡ true → walked_again L heads (form (counted L book t r)) r ≡ v → Renewed L left t r (blame v) (column_of v)
     renewed t r v l i e w = (
-      record_left t l
-          ∙ ap (settled L heads (part t book.frames)) i
-          ∙ ap (λ k. Some (walked_record r k)) (cond-true r.due (blame (walked_again L heads (form (counted L book t r)) r)) r.kept e ∙ ap blame w),
-      column_by t (Some r) l i
-          ∙ cond-true r.due (column_of (walked_again L heads (form (counted L book t r)) r)) (part t book.column) e
-          ∙ ap column_of w,
+      cc (record_left t l),
+      cc (column_by t (Some r) l i),
     )
 
     -- one filled sheet
@@ -100,9 +96,9 @@ module _ {Frame Def Text : Type 0} (L : Language Frame Def Text) (K : Known L) w
           unmoved = λ e. (
             record_left t l
                 ∙ ap (settled L heads (part t book.frames)) i
-                ∙ ap (λ k. Some (walked_record r k)) (cond-false r.due (blame (walked_again L heads (form (counted L book t r)) r)) r.kept e)
-                ∙ ap (λ b. Some (record { name = r.name; head = r.head; size = r.size; kept = r.kept; due = b })) (sym e),
-            column_by t (Some r) l i ∙ cond-false r.due (column_of (walked_again L heads (form (counted L book t r)) r)) (part t book.column) e,
+                ∙ ap₂ (λ k b. Some (record { name = r.name; head = r.head; size = r.size; kept = k; due = b }))
+                (cond-false r.due (blame (walked_again L heads (form (counted L book t r)) r)) r.kept e) (sym e),
+            cc (column_by t (Some r) l i),
           );
         }
 

@@ -1,7 +1,7 @@
 -- The small language is of the kind that the law asks for.
-use Rattle.std.proofs.Common.{◌≡◌, ℕ, zero, suc, ◌<◌, ◌≤◌, true, eqb, ltb, ◌↔◌, List, [], ◌∷◌, length, get_or, Some, None, Ok, Option, sym, refl, ap, ◌∙◌, inl, inr, arith, lit≤}
-use Rattle.std.proofs.lemmas.Bool.{cond-true, cond-false, cases_Bool, eq-eqb, cond_both, eqb-true, le-ltb}
-use Rattle.history.specs.Language.{Verdict.good, Verdict.bad, Heads, Agree, zeros, column_of, as_type, type_at}
+use Rattle.std.proofs.Common.{◌≡◌, ℕ, zero, suc, ◌<◌, ◌≤◌, true, eqb, ◌↔◌, List, [], ◌∷◌, length, get_or, Some, None, Ok, Option, sym, refl, ap, ◌∙◌, inl, inr, arith, lit≤}
+use Rattle.std.proofs.lemmas.Bool.{cond-true, cases_Bool, eq-eqb, cond_both, eqb-true, le-ltb}
+use Rattle.history.specs.Language.{Verdict.good, Verdict.bad, Heads, Agree, zeros, column_of, type_at}
 use Rattle.history.specs.Known.{Known}
 use Rattle.history.specs.Example.{Frame, Frame.nothing, Frame.title, Frame.call, body_frames, is_call, called, formed_from, call_column, judge_call, judge_body, Derives, CallTyped, example}
 use Rattle.history.proofs.Rows.{length_zeros}
@@ -55,8 +55,7 @@ call_types zero u = ((λ e. cc), λ q. absurd (omega (arith, q.0)))
 call_types (suc zero) u = ((λ e. (refl, cc)), λ q. ap Some (sym q.1))
 call_types (suc (suc p)) u = (
   (λ e.
-      let f : ◌≡◌ {A = Option ℕ} None (Some u) = sym (cond-false (ltb (suc (suc p)) 2) (as_type (get_or call_column (suc (suc p)) 0)) None (le-ltb (suc (suc p)) 2 (omega arith))) ∙ e in
-      cc),
+      cc (rw (le-ltb (suc (suc p)) 2 (omega arith)) at e)),
   λ q. absurd (omega (arith, q.0)),
 )
 
@@ -65,8 +64,7 @@ no_types : (p u : ℕ) → type_at 1 zeros p ≡ Some u → ⊥
 unfolding zeros
 no_types zero u e = cc
 no_types (suc p) u e =
-    let f : ◌≡◌ {A = Option ℕ} None (Some u) = sym (cond-false (ltb (suc p) 1) (as_type (get_or zeros (suc p) 0)) None (le-ltb (suc p) 1 (omega arith))) ∙ e in
-    cc
+    cc (rw (le-ltb (suc p) 1 (omega arith)) at e)
 
 -- the types are those of the derivation
 judged_body : (h : Heads) (b : Option (ℕ × ℕ)) → Derives h b → (c : List ℕ) × (judge_body h b ≡ good c) × ((p u : ℕ) → (type_at (suc (length (body_frames b))) c p ≡ Some u) ↔ CallTyped b p u)
@@ -90,7 +88,7 @@ ruled_call (Some x) w l n p e =
       | inl y ↦
           cc (rw y at e)
       | inr y ↦
-          let f : bad 4 54 1 ≡ bad l n p = sym (cond-false (eqb x w) (good call_column) (bad 4 54 1) y) ∙ e in
+          let f : bad 4 54 1 ≡ bad l n p = rw y at e in
           let a : 4 ≡ l = cc in
           let b : 54 ≡ n = cc in
           let c : 1 ≡ p = cc in

@@ -1,5 +1,5 @@
 -- Laws of the small words: one thing replaced, the lowest answer, a test over a list.
-use Rattle.std.proofs.Common.{◌≡◌, ℕ, zero, suc, ◌<◌, false, eqb, Some, None, Option, sym, refl, ap, ◌∙◌, subst, ap₂, inl, inr, arith}
+use Rattle.std.proofs.Common.{◌≡◌, ℕ, zero, suc, ◌<◌, Bool, true, false, cond, eqb, Some, None, Option, sym, refl, ap, ◌∙◌, subst, ap₂, inl, inr, arith}
 use Rattle.std.proofs.lemmas.Bool.{cond-true, cond-false, cases_eq, eq-eqb, ne_eqb}
 use Rattle.history.specs.Words.{updated, or_else, lowest, filled}
 
@@ -75,6 +75,11 @@ pub lowest_some : {X : Type 0} (k : ℕ) (f : ℕ → Option X) (x : X) → lowe
 unfolding lowest
 lowest_some zero f x e = cc
 lowest_some (suc k) f x e = some_next k f x (λ i. lowest_some k f x i) e (lowest k f) refl
+
+-- an answer under a test: the test holds, and that is the answer
+pub cond_parts : {X : Type 0} (b : Bool) (o : Option X) {u : X} → cond b o None ≡ Some u → (b ≡ true) × (o ≡ Some u)
+cond_parts true o e = (refl, e)
+cond_parts false o e = cc
 
 -- what is not filled is not there
 pub filled_none : {X : Type 0} (o : Option X) → filled o ≡ false → o ≡ None
