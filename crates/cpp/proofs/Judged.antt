@@ -21,6 +21,8 @@ use Rattle.rules.proofs.Typed.{column_types}
 use Rattle.rules.proofs.Calls.{calls_decide}
 use Rattle.rules.proofs.First.{first_fault}
 use Rattle.history.specs.Words.{map_some}
+use Rattle.std.proofs.lemmas.Option.{cond_some}
+use Rattle.history.proofs.Words.{cond_parts}
 use Rattle.history.specs.Language.{Verdict.good, Verdict.bad, Heads, Agree, column_of, as_type, type_at}
 use Rattle.cpp.specs.Sheet.{Sheet}
 use Rattle.cpp.specs.Heads.{head_from, signature_from}
@@ -86,15 +88,11 @@ code_is_type Void = refl
 
 -- a number that counts as a type is the code of one
 type_of_number : (n v : ℕ) → as_type n ≡ Some v → (n ≡ v) × ((u : Ty) × (type_code u ≡ v))
-type_of_number n v e = go (ltb 0 n && ltb n 6) refl e
-  where
-    go : (b : Bool) → (ltb 0 n && ltb n 6) ≡ b → cond b (Some n) None ≡ Some v → (n ≡ v) × ((u : Ty) × (type_code u ≡ v))
-    go true i e =
-        let p = and_parts (ltb 0 n) (ltb n 6) i in
-        let j : n ≡ v = cc in
-        let s = type_coded n (omega (arith, ltb-true 0 n p.0)) (omega (arith, ltb-true n 6 p.1)) in
-        (j, (s.0, s.1 ∙ j))
-    go false i e = cc
+type_of_number n v e =
+    let c = cond_some (ltb 0 n && ltb n 6) n v e in
+    let p = and_parts (ltb 0 n) (ltb n 6) c.0 in
+    let s = type_coded n (omega (arith, ltb-true 0 n p.0)) (omega (arith, ltb-true n 6 p.1)) in
+    (c.1, (s.0, s.1 ∙ c.1))
 
 module _ (h : Heads) (s : Sheet) (n : Derivation (signature_from h) s) where
   -- the column of the derivation
@@ -125,22 +123,19 @@ module _ (h : Heads) (s : Sheet) (n : Derivation (signature_from h) s) where
 
   -- what the column says the derivation gives
   says : (p v : ℕ) → type_at (length s.frames) padded p ≡ Some v → GivesNumber (signature_from h) s n p v
-  says p v e = go (ltb p (length s.frames)) refl e
-    where
-      go : (b : Bool) → ltb p (length s.frames) ≡ b → cond b (as_type (get_or padded p 0)) None ≡ Some v → GivesNumber (signature_from h) s n p v
-      go true i e =
-          let a = type_of_number (get_or padded p 0) v e in
-          let l : p < length own = omega (arith, ltb-true p (length s.frames) i, length_column (signature_from h) s n) in
-          let c : get_or own p 0 ≡ type_code a.1.0 = sym (own_front p l) ∙ a.0 ∙ sym a.1.1 in
-          (a.1.0, a.1.1, (column_types (signature_from h) n.definition n.tree p a.1.0).0 c)
-      go false i e = cc
+  says p v e =
+      let q = cond_parts (ltb p (length s.frames)) (as_type (get_or padded p 0)) e in
+      let a = type_of_number (get_or padded p 0) v q.1 in
+      let l : p < length own = omega (arith, ltb-true p (length s.frames) q.0, length_column (signature_from h) s n) in
+      let c : get_or own p 0 ≡ type_code a.1.0 = sym (own_front p l) ∙ a.0 ∙ sym a.1.1 in
+      (a.1.0, a.1.1, (column_types (signature_from h) n.definition n.tree p a.1.0).0 c)
 
   -- and the other way round
   said : (p v : ℕ) → GivesNumber (signature_from h) s n p v → type_at (length s.frames) padded p ≡ Some v
   said p v g =
       let c = (column_types (signature_from h) n.definition n.tree p g.0).1 g.2 in
       let l = typed_within p g.0 c in
-      cond-true (ltb p (length s.frames)) (as_type (get_or padded p 0)) None (lt-ltb p (length s.frames) (omega (arith, l, length_column (signature_from h) s n)))
+      rw (lt-ltb p (length s.frames) (omega (arith, l, length_column (signature_from h) s n))) refl
       ∙ ap as_type (own_front p l ∙ c) ∙ code_is_type g.0 ∙ ap Some g.1
 
   -- the column has the types that the derivation gives

@@ -3,6 +3,7 @@ use Rattle.std.proofs.Common.{◌≡◌, ℕ, zero, suc, ◌+◌, ◌-◌, ◌*�
 use Rattle.std.proofs.lemmas.List.{take_at, take-append-drop}
 use Rattle.std.proofs.lemmas.Nat.{mod_below, div-mul-add, mod-mul-add}
 use Rattle.std.proofs.lemmas.Bool.{cond-true, cond-false, cases_lt, lt-ltb, le-ltb, true≢false}
+use Rattle.std.proofs.lemmas.Bool.Decides.{nat_tests}
 use Rattle.std.proofs.lemmas.Slice.Eq.{bytes_eq-Decides}
 use Rattle.syntax.specs.declared.frame.Frame.{Frame}
 use Rattle.codec.specs.Text.{digit, hexes, line_of, Fit}
@@ -13,21 +14,9 @@ use Rattle.cpp.specs.Text.{digit_value, spelled, frame_on, begins_line}
 
 -- ## digits
 
--- the value of a digit from 0 to 9
-value_low : (d : ℕ) → d < 10 → digit_value (48 + d) ≡ d
-value_low d l = let e : 48 + d - 48 ≡ d = omega arith in cond-true (ltb (48 + d) 65) (48 + d - 48) (48 + d - 55) (lt-ltb (48 + d) 65 (omega arith)) ∙ e
-
--- and from A on
-value_high : (d : ℕ) → 10 ≤ d → digit_value (55 + d) ≡ d
-value_high d l = let e : 55 + d - 55 ≡ d = omega arith in cond-false (ltb (55 + d) 65) (55 + d - 48) (55 + d - 55) (le-ltb (55 + d) 65 (omega arith)) ∙ e
-
 -- the byte of a digit has its value
 value_digit : (d : ℕ) → digit_value (digit d) ≡ d
-value_digit d =
-    elim (cases_lt d 10) [
-      | inl l ↦ ap digit_value (cond-true (ltb d 10) (48 + d) (55 + d) (lt-ltb d 10 l)) ∙ value_low d l
-      | inr l ↦ ap digit_value (cond-false (ltb d 10) (48 + d) (55 + d) (le-ltb d 10 l)) ∙ value_high d l
-    ]
+value_digit d = grind (arith, nat_tests)
 
 -- one digit more
 spelled_push : (n : ℕ) (xs : List ℕ) (b : ℕ) → spelled n (xs ++ (b ∷ [])) ≡ spelled n xs * 16 + digit_value b
