@@ -71,4 +71,4 @@ unfolding head_number
 head_packed s =
     let ts = param_types (sheet_params s.frames) in
     let r = returned s.frames in
-    cond-true (fits (map type_code ts) (type_code r)) (Some (packed (map type_code ts) (type_code r))) None (codes_fit ts r (few_parameters s))
+    rw (codes_fit ts r (few_parameters s)) refl

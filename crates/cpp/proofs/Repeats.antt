@@ -53,7 +53,7 @@ repeat_none : (p : ℕ) (seen xs : List ℕ) → Distinct xs → Outside seen xs
 unfolding first_repeat
 repeat_none p seen [] d o = refl
 repeat_none p seen (x ∷ xs) d o =
-    cond-false (any_of (λ y. eqb y x) seen) (Some p) (first_repeat (suc p) (x ∷ seen) xs) o.0
+    rw o.0 refl
     ∙ repeat_none (suc p) (x ∷ seen) xs d.1 (outside_from x seen xs d.0 o.1)
 
 -- of any names

@@ -43,7 +43,7 @@ module _ {Frame Def Text : Type 0} (L : Language Frame Def Text) where
   -- a signature without the name gives it no head
   unnamed : (n : ℕ) (x : Option Def) → ((d : Def) → x ≡ Some d → name d ≡ n → ⊥) → head_for n (map_some (signature L) x) ≡ None
   unnamed n None f = refl
-  unnamed n (Some d) f = cond-false (eqb (name d) n) (Some (head d)) None (ne_eqb (name d) n (f d refl))
+  unnamed n (Some d) f = rw (ne_eqb (name d) n (f d refl)) refl
 
   module _ (h : History L) where
     -- the entries after the history

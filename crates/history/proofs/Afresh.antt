@@ -57,7 +57,7 @@ module _ {Frame Def Text : Type 0} (L : Language Frame Def Text) where
 
     -- a definition's signature has its name
     own_name : (d : Def) → filled (head_for (name d) (Some (signature L d))) ≡ true
-    own_name d = ap filled (cond-true (eqb (name d) (name d)) (Some (head d)) None (eq-eqb (name d) (name d) refl))
+    own_name d = rw (eq-eqb (name d) (name d) refl) refl
 
     -- an entry's name is on no other sheet
     nowhere_else : (ss : List ℕ) (s : ℕ) (d : Def) → e s ≡ Some d → elsewhere L (signatures L (some_of e ss)) s (name d) ≡ false

@@ -35,7 +35,7 @@ module _ {Frame Def Text : Type 0} (L : Language Frame Def Text) where
   -- a walk ends it
   walked_is : (p : Plain L) (t : ℕ) → due L p t ≡ true → since_by p (Ok walked) t ≡ false
   unfolding walks
-  walked_is p t e = cond-true (due L p t) false (touches L p.entries walked t || p.since t) e
+  walked_is p t e = rw e refl
 
   -- the step, forwards and backwards
   step_to : (p : Plain L) (r : Result (Act L) Fault) (t : ℕ) → since_by p r t ≡ true → ((a : Act L) × (r ≡ Ok a) × (touches L p.entries a t ≡ true)) ⊎ (p.since t ≡ true)

@@ -41,7 +41,7 @@ fresh_accepted fl cl = (
   (λ e.
       let p = and_parts (eqb fl 8192) (eqb cl 8192) (none_passed (sized fl cl) (refusal 32 255) e) in
       (eqb-true fl 8192 p.0, eqb-true cl 8192 p.1)),
-  λ q. cond-true (sized fl cl) None (Some (refusal 32 255)) (and_from (eqb fl 8192) (eqb cl 8192) (eq-eqb fl 8192 q.0) (eq-eqb cl 8192 q.1)),
+  λ q. rw (q.0, q.1) refl,
 )
 
 -- fresh is refused by 32 alone

@@ -56,12 +56,12 @@ module _ {Frame Def Text : Type 0} (L : Language Frame Def Text) (K : Known L) w
   -- a question below sheet 32 is answered
   asked_in : (book : State Frame) (s k : ℕ) (o : Option ℕ) → s < 32 → type_asked L book s k (record_at book s) ≡ o → asked L book s k ≡ Ok o
   unfolding asked
-  asked_in book s k o l e = cond-false (ltb 31 s) (Err (refusal 31 s)) (Ok (type_asked L book s k (record_at book s))) (le-ltb 31 s (omega arith)) ∙ ap Ok e
+  asked_in book s k o l e = rw (le-ltb 31 s (omega arith)) (ap Ok e)
 
   -- and beyond it refused
   asked_beyond : (book : State Frame) (s k : ℕ) → 31 < s → asked L book s k ≡ Err (refusal 31 s)
   unfolding asked
-  asked_beyond book s k l = cond-true (ltb 31 s) (Err (refusal 31 s)) (Ok (type_asked L book s k (record_at book s))) (lt-ltb 31 s l)
+  asked_beyond book s k l = rw (lt-ltb 31 s l) refl
 
   -- an answer that no type fits is none
   no_answer : (o : Option ℕ) → ((u : ℕ) → o ≡ Some u → ⊥) → o ≡ None

@@ -94,8 +94,7 @@ module _ {Frame Def Text : Type 0} (L : Language Frame Def Text) (K : Known L) w
     -- no record past the last sheet
     past_new : (t : ℕ) → 32 ≤ t → new_records t ≡ None
     past_new t m =
-        cond-false (eqb t s) (entry_record x) (marked L (working_signatures book s) (map_some (signature L) x) (part t book.frames) (record_at book t)) (ne_eqb t s (λ i. omega arith))
-        ∙ ap (marked L (working_signatures book s) (map_some (signature L) x) (part t book.frames)) (past_record t m)
+        rw (ne_eqb t s (λ i. omega arith), past_record t m) refl
 
     -- the plain book after
     abbrev pub plain_replaced : Plain L

@@ -41,7 +41,7 @@ module _ {Frame Def Text : Type 0} (L : Language Frame Def Text) (K : Known L) w
   -- frames that form as their record says are judged
   again_judged : (h : Heads) (fs : List Frame) (r : Record) (d : Def) → FormsAs L r fs d → walked_again L h (form fs) r ≡ judge h d
   again_judged h fs r d w =
-      ap (λ o. walked_again L h o r) w.0 ∙ cond-true (fits L r d) (judge h d) (bad 3 38 0) (fits_of r d w.1 w.2 w.3)
+      rw (w.0, fits_of r d w.1 w.2 w.3) refl
 
   -- all others get 38
   again_broken : (h : Heads) (r : Record) (o : Result Def Fault) → ((d : Def) → (o ≡ Ok d) × (name d ≡ r.name) × (head d ≡ r.head) × (repeated d ≡ None) → ⊥) → walked_again L h o r ≡ bad 3 38 0
@@ -49,7 +49,7 @@ module _ {Frame Def Text : Type 0} (L : Language Frame Def Text) (K : Known L) w
   again_broken h r (Ok d) none =
       elim (cases_Bool (fits L r d)) [
         | inl y ↦ let p = fits_parts r d y in absurd (none d (refl, p.0, p.1, p.2))
-        | inr y ↦ cond-false (fits L r d) (judge h d) (bad 3 38 0) y
+        | inr y ↦ rw y refl
       ]
 
   module _ (book : State Frame) (wide : length book.column ≡ 8192) where

@@ -41,7 +41,7 @@ module _ {Frame Def Text : Type 0} (L : Language Frame Def Text) where
   pub asks : (book : State Frame) (s k u : ℕ) → s < 32 → (asked L book s k ≡ Ok (Some u)) ↔ Shown L book s k u
   unfolding asked
   asks book s k u l =
-      let a : asked L book s k ≡ Ok (type_asked L book s k (record_at book s)) = cond-false (ltb 31 s) (Err (refusal 31 s)) (Ok (type_asked L book s k (record_at book s))) (le-ltb 31 s (omega arith)) in (
+      let a : asked L book s k ≡ Ok (type_asked L book s k (record_at book s)) = rw (le-ltb 31 s (omega arith)) refl in (
         (λ e. shown_of book s k u (record_at book s) refl cc),
         λ w. a ∙ ap Ok (asked_of book s k u w),
       )

@@ -21,7 +21,7 @@ module _ {Frame Def Text : Type 0} (L : Language Frame Def Text) where
   head_for_name n d e =
       elim (cases_Bool (eqb (name d) n)) [
         | inl y ↦ eqb-true (name d) n y
-        | inr y ↦ absurd (both_ways (filled (head_for n (Some (signature L d)))) (ap filled (cond-false (eqb (name d) n) (Some (head d)) None y)) e)
+        | inr y ↦ cc (rw y at e)
       ]
 
   -- the sheets other than s have not the name that s is given

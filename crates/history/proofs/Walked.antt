@@ -29,7 +29,7 @@ module _ {Frame Def Text : Type 0} (L : Language Frame Def Text) (K : Known L) w
   -- a sheet's own frames are judged, and get no 38
   walk_own : (h : Heads) (d : Def) (v : Blame) (b : Bool) (bs : List Frame) → bs ≡ image L d → repeated d ≡ None → walked_again L h (form (take (size L d) bs)) (record_of L d v b) ≡ judge h d
   walk_own h d v b bs e once =
-      ap (λ o. walked_again L h o (record_of L d v b)) (ap (λ q. form (take (size L d) q)) e ∙ ap form (image_own L K d) ∙ forms d) ∙ cond-true (fits L (record_of L d v b) d) (judge h d) (bad 3 38 0) (fits_own d v b once)
+      rw (e, image_own L K d, forms d, fits_own d v b once) refl
 
   -- its record after the check
   row_settled : (h : Heads) (x : Option Def) (s : Bool) (bs : List Frame) (r : Option Record) → bs ≡ image_at L x → ((d : Def) → x ≡ Some d → repeated d ≡ None) → Row L h x (filled x && s) r → settled L h bs r ≡ checked_row h x

@@ -46,7 +46,7 @@ derived_body h (Some k) c e = derived_call (h k.0) k.1 c e
 
 -- and the other way round
 judged_call : (o : Option ℕ) (w : ℕ) → o ≡ Some w → judge_call o w ≡ good call_column
-judged_call o w i = ap (λ q. judge_call q w) i ∙ cond-true (eqb w w) (good call_column) (bad 4 54 1) (eq-eqb w w refl)
+judged_call o w i = rw (i, eq-eqb w w refl) refl
 
 -- the column of a call has type 2 at place 1 alone
 call_types : (p u : ℕ) → (type_at 2 call_column p ≡ Some u) ↔ ((p ≡ 1) × (u ≡ 2))

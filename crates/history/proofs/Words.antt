@@ -6,12 +6,12 @@ use Rattle.history.specs.Words.{updated, or_else, lowest, filled}
 -- the thing that was replaced
 pub updated_same : {X : Type 0} (f : ℕ → X) (s : ℕ) (x : X) → updated f s x s ≡ x
 unfolding updated
-updated_same f s x = cond-true (eqb s s) x (f s) (eq-eqb s s refl)
+updated_same f s x = rw (eq-eqb s s refl) refl
 
 -- every other is as before
 pub updated_other : {X : Type 0} (f : ℕ → X) (s : ℕ) (x : X) (t : ℕ) → (t ≡ s → ⊥) → updated f s x t ≡ f t
 unfolding updated
-updated_other f s x t h = cond-false (eqb t s) x (f t) (ne_eqb t s h)
+updated_other f s x t h = rw (ne_eqb t s h) refl
 
 -- a fact of every number, from the fact of the replaced one and of the others
 pub updated_all : {X : Type 0} (P : ℕ → X → Type 0) (f : ℕ → X) (s : ℕ) (x : X) (t : ℕ) → (t ≡ s → P t x) → ((t ≡ s → ⊥) → P t (f t)) → P t (updated f s x t)

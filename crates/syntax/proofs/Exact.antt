@@ -158,7 +158,7 @@ accepted_tree fs h =
 pub within_accepted : (D : Definition) → Within D → forms (written D) ≡ accepted
 unfolding written
 within_accepted D w =
-    cond-false (ltb 256 (length (written D))) (refused 20 256) (run 0 start (written D)) (le-ltb 256 (length (written D)) w.frames)
+    rw (le-ltb 256 (length (written D)) w.frames) refl
     ∙ run_writes (write_definition D []) 0 nothing_yet D (definition_legal D w.named w.params w.params_fit w.body_fits)
     (build_all D ∙ ap (λ b. when b (Some (done D))) (deep_body D.body w.unfinished))
 

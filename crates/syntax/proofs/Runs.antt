@@ -6,10 +6,10 @@ use Rattle.syntax.specs.declared.frame.Frame.{Frame}
 use Rattle.syntax.specs.Form.{fine, refused, State, step, run, start, forms}
 
 pub forms_long : (fs : List Frame) → 256 < length fs → forms fs ≡ refused 20 256
-forms_long fs h = cond-true (ltb 256 (length fs)) (refused 20 256) (run 0 start fs) (lt-ltb 256 (length fs) h)
+forms_long fs h = rw (lt-ltb 256 (length fs) h) refl
 
 pub forms_short : (fs : List Frame) → length fs ≤ 256 → forms fs ≡ run 0 start fs
-forms_short fs h = cond-false (ltb 256 (length fs)) (refused 20 256) (run 0 start fs) (le-ltb 256 (length fs) h)
+forms_short fs h = rw (le-ltb 256 (length fs) h) refl
 
 module _ (fs : List Frame) (i : ℕ) (s : State) where
   pub run_more : (z : Frame) (t : State) → i < length fs → step i s (get_or fs i z) ≡ fine t → run i s (drop i fs) ≡ run (i + 1) t (drop (i + 1) fs)
