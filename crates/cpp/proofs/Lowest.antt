@@ -17,7 +17,7 @@ Tracks seen before = (n : ℕ) → (any_of (λ y. eqb y n) seen ≡ true) ↔ In
 -- at first nothing
 tracks_none : Tracks [] []
 unfolding any_of
-tracks_none n = ((λ h. absurd (false≢true h)), (λ h. absurd (omega (arith, h.1))))
+tracks_none n = ((λ h. cc), (λ h. absurd (omega (arith, h.1))))
 
 -- one name more was seen and stands before
 tracks_more : (seen before : List ℕ) (x : ℕ) → Tracks seen before → Tracks (x ∷ seen) (before ++ (x ∷ []))
@@ -70,7 +70,7 @@ scan_next : (before seen : List ℕ) (x : ℕ) (xs : List ℕ) (n : ℕ) → n �
     (o : Option ℕ) → Outcome ((before ++ (x ∷ [])) ++ xs) (suc n) o → (b : Bool) → any_of (λ y. eqb y x) seen ≡ b → Outcome (before ++ (x ∷ xs)) n (cond b (Some (suc n)) o)
 scan_next before seen x xs n e t o ih true i = (n, refl, omega arith, repeats_in before x xs n e ((t x).0 i), (λ k l m. absurd (omega arith)))
 scan_next before seen x xs n e t o ih false i =
-    outcome_next (before ++ (x ∷ xs)) n o (λ r. true≢false (sym ((t x).1 (in_repeats before x xs n e r)) ∙ i))
+    outcome_next (before ++ (x ∷ xs)) n o (λ r. cc ((t x).1 (in_repeats before x xs n e r)))
     (subst (λ ns. Outcome ns (suc n) o) (append_assoc before (x ∷ []) xs) ih)
 
 -- what the search for the first repeat finds

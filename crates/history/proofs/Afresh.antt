@@ -99,11 +99,7 @@ module _ {Frame Def Text : Type 0} (L : Language Frame Def Text) where
     unfolding plain stepped after entries_after
     one_put ss s None i h ih = ih ∙ some_less ss s i
     one_put ss s (Some d) i h ih =
-        ap (λ f. (stepped L (plain L h) (outcome L (signatures L f) (put s d 8192 8192))).entries) ih
-        ∙ ap (λ r. (stepped L (plain L h) r).entries) (put_accepted ss s d i)
-        ∙ ap (λ f. updated f s (Some d)) ih
-        ∙ ap (updated (some_of e ss) s) (sym i)
-        ∙ some_more ss s
+        rw (ih, put_accepted ss s d i, ← i) (some_more ss s)
 
     -- the entries after the puts are the listed ones
     entries_of_puts : (ss : List ℕ) → (plain L (puts_of L e ss)).entries ≡ some_of e ss

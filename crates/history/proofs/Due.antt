@@ -74,9 +74,9 @@ module _ {Frame Def Text : Type 0} (L : Language Frame Def Text) where
   later h t k new c old i none [] m early e w =
       let em : m ≡ k = cc in
       let ee : early ++ (c ∷ old) ≡ h = cc in
-      let v : Touched L h k t = subst (λ q. Touched L q k t) ee (subst (λ q. Touched L (early ++ (c ∷ old)) q t) em w) in
+      let v : Touched L h k t = rw (em, ee) at w in
       let m = touched_mark L h k t v in
-      absurd (both_ways (touches L (plain L h).entries m.0 t) (none m.0 m.1) m.2)
+      cc (none m.0 m.1, m.2)
   later h t k new c old i none (x ∷ late) m early e w = (late, m, early, cc, w)
 
   -- a marked sheet is behind each of its walks
@@ -88,8 +88,8 @@ module _ {Frame Def Text : Type 0} (L : Language Frame Def Text) where
       let R : Result (Act L) Fault = outcome L (signatures L (plain L h).entries) k in
       let hc : c ≡ k = cc in
       let ho : old ≡ h = cc in
-      let v : Walked L h k t = subst (λ q. Walked L q k t) ho (subst (λ q. Walked L old q t) hc w) in
-      absurd (both_ways (since_by (plain L h) R t) (ap (λ r. since_by (plain L h) r t) v.0 ∙ walked_is (plain L h) t v.1) (sym (since_step (plain L h) R t) ∙ e))
+      let v : Walked L h k t = rw (hc, ho) at w in
+      cc (v.0, walked_is (plain L h) t v.1, since_step (plain L h) R t)
   behind (k ∷ h) t e (x ∷ new) c old i w =
       let R : Result (Act L) Fault = outcome L (signatures L (plain L h).entries) k in
       let hx : k ≡ x = cc in

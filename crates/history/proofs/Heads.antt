@@ -20,7 +20,7 @@ differ_false (Some a) (Some b) e = ap Some (eqb-true a b (not-false (eqb a b) e)
 
 -- heads that differ are not the same
 pub differ_true : (a b : Option ℕ) → differ a b ≡ true → a ≡ b → ⊥
-differ_true a b e i = both_ways (differ a b) (sym (ap (differ a) i) ∙ differ_self a) e
+differ_true a b e i = cc (differ_self a)
 
 -- heads that are not the same differ
 pub differ_unequal : (a b : Option ℕ) → (a ≡ b → ⊥) → differ a b ≡ true

@@ -17,7 +17,7 @@ module _ {Frame Def Text : Type 0} (L : Language Frame Def Text) where
   walked_cases h c t (Ok walked) i =
       elim (cases_Bool (due L (plain L h) t)) [
         | inl y ↦ inl (i, y)
-        | inr y ↦ inr (λ w. both_ways (due L (plain L h) t) y w.1)
+        | inr y ↦ inr (λ w. cc w.1)
       ]
 
   -- a newest call that walks not leaves a sheet never walked as it was
@@ -25,7 +25,7 @@ module _ {Frame Def Text : Type 0} (L : Language Frame Def Text) where
   never_more c h t idle never [] k early e w =
       let i : k ≡ c = cc in
       let j : early ≡ h = cc in
-      idle (subst (λ q. Walked L q c t) j (subst (λ q. Walked L early q t) i w))
+      idle (rw (i, j) at w)
   never_more c h t idle never (x ∷ late) k early e w = never late k early (cc) w
 
   -- and its last walk too
@@ -33,7 +33,7 @@ module _ {Frame Def Text : Type 0} (L : Language Frame Def Text) where
   last_more c h new k old t all idle last [] m early e w =
       let i : m ≡ c = cc in
       let j : early ++ (k ∷ old) ≡ h = cc in
-      idle (subst (λ q. Walked L q c t) j (subst (λ q. Walked L (early ++ (k ∷ old)) q t) i w))
+      idle (rw (i, j) at w)
   last_more c h new k old t all idle last (x ∷ late) m early e w = last late m early (cc) w
 
   -- one call more

@@ -25,7 +25,7 @@ module _ {Frame Def Text : Type 0} (L : Language Frame Def Text) (e : Entries L)
       ])
       (λ y.
       elim (cases_eq t k) [
-        | inl i ↦ absurd (both_ways (filled (e k)) y (sym (ap (λ u. filled (e u)) i) ∙ f))
+        | inl i ↦ cc
         | inr n ↦ listed_in k t (omega arith) f
       ])
 
@@ -35,7 +35,7 @@ module _ {Frame Def Text : Type 0} (L : Language Frame Def Text) (e : Entries L)
   listed_not zero t f = refl
   listed_not (suc k) t f =
       cond_both (filled (e k)) (k ∷ filled_below k) (filled_below k) (λ ss. any_of (eqb t) ss ≡ false)
-      (λ y. ap₂ ◌||◌ (ne_eqb t k (λ i. both_ways (filled (e k)) (sym (ap (λ u. filled (e u)) i) ∙ f) y)) (listed_not k t f))
+      (λ y. ap₂ ◌||◌ (ne_eqb t k (λ i. cc)) (listed_not k t f))
       (λ y. listed_not k t f)
 
   -- so the list of the filled sheets below 32 has just the filled ones
@@ -47,7 +47,7 @@ module _ {Frame Def Text : Type 0} (L : Language Frame Def Text) (e : Entries L)
           | inl y ↦
               elim (cases_lt t 32) [
                 | inl l ↦ listed_in 32 t l y ∙ sym y
-                | inr l ↦ absurd (both_ways (filled (e t)) (ap filled (ok.small t l)) y)
+                | inr l ↦ cc (ok.small t l)
               ]
           | inr y ↦ listed_not 32 t y ∙ sym y
         ],

@@ -78,15 +78,10 @@ module _ {X : Type 0} (m : ℕ → Bool) (f : ℕ → List X) (xs : List X) (wid
   rewritten_part zero t l h = absurd (omega arith)
   rewritten_part (suc k) t l h =
       let len = length_rewritten k (omega arith) in
+      let both = cond_both (m k) (with_part k (f k) (rewritten k m f xs)) (rewritten k m f xs) (λ ys. part t ys ≡ cond (m t) (f t) (part t xs)) in
       elim (cases_eq t k) [
-        | inl i ↦
-            subst (λ u. part u (cond (m k) (with_part k (f k) (rewritten k m f xs)) (rewritten k m f xs)) ≡ cond (m u) (f u) (part u xs)) (sym i)
-            (elim (m k) as (λ b. part k (cond b (with_part k (f k) (rewritten k m f xs)) (rewritten k m f xs)) ≡ cond b (f k) (part k xs)) [
-              | true ↦ part_same k (f k) (rewritten k m f xs) (wide k) (omega arith)
-              | false ↦ rewritten_past k k (omega arith) (omega arith)
-            ])
+        | inl i ↦ both (λ y. cc (part_same k (f k) (rewritten k m f xs) (wide k) (omega arith))) (λ y. cc (rewritten_past k k (omega arith) (omega arith)))
         | inr n ↦
             let ih = rewritten_part k t (omega arith) (omega arith) in
-            cond_both (m k) (with_part k (f k) (rewritten k m f xs)) (rewritten k m f xs) (λ ys. part t ys ≡ cond (m t) (f t) (part t xs))
-            (λ _. part_other k t (f k) (rewritten k m f xs) (wide k) (omega arith) n ∙ ih) (λ _. ih)
+            both (λ _. part_other k t (f k) (rewritten k m f xs) (wide k) (omega arith) n ∙ ih) (λ _. ih)
       ]

@@ -126,11 +126,11 @@ module _ {Frame Def Text : Type 0} (L : Language Frame Def Text) (K : Known L) w
     column_new t m =
         elim (cases_Bool (eqb t s)) [
           | inl y ↦
-              subst (λ b. NewColumn b x h k (p.entries t) (p.since t) (part t (with_part s zeros book.column))) (sym y)
+              rw y
               (column_here h k x (p.entries t) (p.since t) (part t (with_part s zeros book.column))
               (ap (λ u. part u (with_part s zeros book.column)) (eqb-true t s y) ∙ part_same s zeros book.column length_zeros (omega (arith, stands.wide))))
           | inr y ↦
-              subst (λ b. NewColumn b x h k (p.entries t) (p.since t) (part t (with_part s zeros book.column))) (sym y)
+              rw y
               (column_other h k x (p.entries t) (p.since t) (part t book.column) (part t (with_part s zeros book.column))
               (part_other s t zeros book.column length_zeros (omega (arith, stands.wide)) (eqb-false t s y)) (stands.column t m))
         ]

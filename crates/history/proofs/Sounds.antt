@@ -53,9 +53,9 @@ module _ {Frame Def Text : Type 0} (L : Language Frame Def Text) where
       updated_all (λ i o. filled (head_for n o) ≡ true → filled (head_for n (updated g s w u)) ≡ true → i ≡ u) g s w t
       (λ i a. updated_all (λ j o. filled (head_for n o) ≡ true → t ≡ j) g s w u
       (λ j b. i ∙ sym j)
-      (λ j b. absurd (both_ways (filled (head_for n (g u))) (ap filled (free n a u j)) b)))
+      (λ j b. cc (free n a u j)))
       (λ i a. updated_all (λ j o. filled (head_for n o) ≡ true → t ≡ j) g s w u
-      (λ j b. absurd (both_ways (filled (head_for n (g t))) (ap filled (free n b t i)) a))
+      (λ j b. cc (free n b t i))
       (λ j b. apart t u n a b))
 
   -- ## one step keeps all
@@ -70,8 +70,8 @@ module _ {Frame Def Text : Type 0} (L : Language Frame Def Text) where
               apart = subst (λ f. Apart (signatures L f)) (sym e) (subst Apart (sym (signatures_updated p.entries s x)) (apart_updated (signatures L p.entries) s (map_some (signature L) x) ok.orderly.apart free));
               single = λ t d. subst (λ f. f t ≡ Some d → repeated d ≡ None) (sym e) (updated_all (λ _ o. o ≡ Some d → repeated d ≡ None) p.entries s x t (λ _. once d) (λ _. ok.orderly.single t d));
             };
-        calm = λ y. absurd (both_ways q.valid v y);
-        clean = λ y. absurd (both_ways q.valid v y);
+        calm = λ y. cc;
+        clean = λ y. cc;
       }
 
   -- a sheet that was walked, or was not due, is not due

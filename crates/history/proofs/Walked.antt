@@ -75,7 +75,7 @@ module _ {Frame Def Text : Type 0} (L : Language Frame Def Text) (K : Known L) w
     -- nor does a check put anything there
     past_checked : (t : ℕ) → 32 ≤ t → checked_record L book t ≡ checked_row present (p.entries t)
     unfolding checked_record
-    past_checked t m = ap (settled L (heads_of (working_signatures book)) (part t book.frames)) (past_row t m) ∙ sym (ap (checked_row present) (ok.orderly.small t m))
+    past_checked t m = rw (past_row t m, ok.orderly.small t m) refl
 
     -- each record after the check
     checked_record_same : (t : ℕ) → checked_record L book t ≡ checked_row present (p.entries t)
@@ -105,7 +105,7 @@ module _ {Frame Def Text : Type 0} (L : Language Frame Def Text) (K : Known L) w
           | inl m ↦
               ap (λ g. walked_column L g (part t book.frames) (record_at book t)) same_heads
               ∙ column_walked present (p.entries t) (p.since t) (part t book.frames) (record_at book t) (stands.frames.parts t m) (ok.orderly.single t) (stands.row t)
-          | inr m ↦ ap (walked_column L (heads_of (working_signatures book)) (part t book.frames)) (past_row t m) ∙ sym (ap (column_at L present) (ok.orderly.small t m))
+          | inr m ↦ rw (past_row t m, ok.orderly.small t m) refl
         ]
 
     -- it is a whole part

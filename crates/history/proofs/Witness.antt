@@ -79,20 +79,18 @@ spoken_body f (Some c) p u g = ap (λ q. is_call (get_or (f ∷ call c.0 c.1 ∷
 -- the faults of a call are rules'
 ruled_call : (o : Option ℕ) (w l n p : ℕ) → judge_call o w ≡ bad l n p → (l ≡ 4) × (51 ≤ n) × (n ≤ 60) × (p < 2)
 ruled_call None w l n p e =
-    let a : 4 ≡ l = cc in
     let b : 52 ≡ n = cc in
     let c : 1 ≡ p = cc in
-    (sym a, omega arith, omega arith, omega arith)
+    (cc, omega arith, omega arith, omega arith)
 ruled_call (Some x) w l n p e =
     elim (cases_Bool (eqb x w)) [
       | inl y ↦
           cc (rw y at e)
       | inr y ↦
           let f : bad 4 54 1 ≡ bad l n p = rw y at e in
-          let a : 4 ≡ l = cc in
           let b : 54 ≡ n = cc in
           let c : 1 ≡ p = cc in
-          (sym a, omega arith, omega arith, omega arith)
+          (cc, omega arith, omega arith, omega arith)
     ]
 
 -- so all faults are

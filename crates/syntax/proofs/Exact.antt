@@ -37,10 +37,7 @@ step_taken m p s t h =
     let i = row_token m in
     let j = w.is in
     let r : w.row_of ≡ token_row m = cc in
-    let g : fields_fit (token_row m) (frame_of m) ≡ true = subst (λ x. fields_fit x (frame_of m) ≡ true) r w.fits in
-    let a : allow p (role m) (frame_of m).load (erase s).stage (erase s).stack (erase s).ready ≡ fine t =
-    subst (λ (x : Row). allow p x.role (frame_of m).load (erase s).stage (erase s).stack (erase s).ready ≡ fine t) r w.goes in
-    (fits_legal m (fields_fits (token_row m) (frame_of m) g), erases_some (build m s) (forgets p m s ∙ ap heed a))
+    (fits_legal m (fields_fits (token_row m) (frame_of m) (rw r at w.fits)), erases_some (build m s) (forgets p m s ∙ ap heed (rw r at w.goes)))
 
 -- the frames are those of tokens within their ranges, which build a definition from s on
 abbrev pub Reads : List Frame → Tree → Type 0
