@@ -63,7 +63,7 @@ params_generated [] [] H w none_generates = tt
 params_generated [] (d ∷ p) H w g = absurd w
 params_generated (fs ∷ b) [] H w g = absurd w
 params_generated (fs ∷ b) (d ∷ p) H w (more_generates {H = J} g h k) =
-    (subst (λ ps. Distinct (param_names ps)) (sym (ap sheet_params (sym w.0) ∙ params_written d)) k, params_generated b p J w.1 g)
+    (rw (← w.0, params_written d) k, params_generated b p J w.1 g)
 
 walked_consistent : (S : Signature) (b : Book) (p : Program) → Writes b p → Consistent S p → AllWalked S b
 walked_consistent S [] [] w none_consistent = tt
@@ -93,7 +93,7 @@ generates [] [] w n k = none_generates
 generates [] (d ∷ p) w n k = absurd w
 generates (fs ∷ b) [] w n k = absurd w
 generates (fs ∷ b) (d ∷ p) w n k =
-    more_generates (generates b p w.1 n.1 k.1) n.0 (subst (λ ps. Distinct (param_names ps)) (ap sheet_params (sym w.0) ∙ params_written d) k.0)
+    more_generates (generates b p w.1 n.1 k.1) n.0 (rw (← w.0, params_written d) at k.0)
 
 consistent_walked : (S : Signature) (b : Book) (p : Program) → Writes b p → AllWalked S b → Consistent S p
 consistent_walked S [] [] w a = none_consistent

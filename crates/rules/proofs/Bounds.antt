@@ -36,6 +36,6 @@ within_bounds S fs h n =
     let deep = along_definition S (returned fs) 33 d (omega (arith, w.1.unfinished)) n in
     let names = names_along S (returned fs) (write_definition d []) start n in
     let long : length (write_definition d []) ≤ 256 = omega (arith, w.1.frames, length-map (write_definition d []) frame_of) in (
-      subst (λ ms. length (levels_left (walk S (returned fs) ms start)) ≤ 33) (sym front) deep,
-      subst (λ ms. standing (levels_left (walk S (returned fs) ms start)) ≤ 256) (sym front) (omega (arith, names, long)),
+      rw front deep,
+      rw front (omega (arith, names, long)),
     )

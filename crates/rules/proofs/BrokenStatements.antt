@@ -85,12 +85,11 @@ module _ (S : Signature) (r : Ty) where
           (λ h₁. inl (stmt_breaks s false Γ τ a h₁))
           (λ c h₁ h₂. inr (
             stmt_sound S r s false Γ τ a h₁ empty_valid,
-            subst (λ (σ : Table Ty). StmtsBroken S r Γ σ ss (after_stmt s (length a)) v p Δ) (top_level s τ)
-                (subst (λ n. StmtsBroken S r Γ (top_after false s τ) ss n v p Δ) (stmt_place false Γ τ s a h₁) (stmts_break ss Γ (top_after false s τ) c h₂)),
+            rw (top_level s τ, stmt_place false Γ τ s a h₁) at (stmts_break ss Γ (top_after false s τ) c h₂),
           ))
 
 pub broken_first : (S : Signature) (d : Definition) (v : Violation) (p : ℕ) (Δ : Levels) → walk_sheet S (written d) ≡ Err (fault v p Δ) → Broken S d v p Δ
 broken_first S d v p Δ h =
     fails (body_checked S d) _ (sym (sheet_written S d) ∙ h)
-    (λ h₁. subst (λ n. StmtsBroken S d.returns [] (params_level S d) d.body n v p Δ) (blanks_place d.params (0 ∷ [])) (stmts_break S d.returns v p Δ d.body [] (params_level S d) (before_body S d) h₁))
+    (λ h₁. rw (blanks_place d.params (0 ∷ [])) at (stmts_break S d.returns v p Δ d.body [] (params_level S d) (before_body S d) h₁))
     (λ c h₁ h₂. cc)

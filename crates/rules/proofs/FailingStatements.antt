@@ -40,7 +40,7 @@ module _ (S : Signature) (v : Violation) (p : ℕ) where
         (ended_failing (arguments_stacked q.1 a) Γ (judge_call S f q.0) (call_failing S f q.0 q.3) (q.2 ∙ sym (arguments_place q.1 a)))
     expr_failing Γ (binary o e₁ e₂) a (inl h) = rw (expr_failing Γ e₁ a h)
     expr_failing Γ (binary o e₁ e₂) a (inr (t, d, inl h)) =
-        rw (expr_complete S Γ d a, expr_failing Γ e₂ (expr_stacked d a) (subst (λ n. ExprBroken S Γ e₂ n v p) (sym (expr_place d a)) h))
+        rw (expr_complete S Γ d a, expr_failing Γ e₂ (expr_stacked d a) (rw (expr_place d a) h))
     expr_failing Γ (binary o e₁ e₂) a (inr (t, d, inr q)) =
         let at = expr_place q.1 (expr_stacked d a) ∙ ap (after_expr e₂) (expr_place d a) in
         rw (expr_complete S Γ d a, expr_complete S Γ q.1 (expr_stacked d a))
@@ -54,7 +54,7 @@ module _ (S : Signature) (v : Violation) (p : ℕ) where
     exprs_failing Γ none a h = absurd h
     exprs_failing Γ (more e es) a (inl h) = rw (expr_failing Γ e a h)
     exprs_failing Γ (more e es) a (inr q) =
-        rw (expr_complete S Γ q.1 a, exprs_failing Γ es (expr_stacked q.1 a) (subst (λ n. ExprsBroken S Γ es n v p) (sym (expr_place q.1 a)) q.2))
+        rw (expr_complete S Γ q.1 a, exprs_failing Γ es (expr_stacked q.1 a) (rw (expr_place q.1 a) q.2))
 
   module _ (Δ : Levels) where
     -- an expression, then a frame that judges its type and goes on by k
@@ -80,15 +80,14 @@ module _ (S : Signature) (v : Violation) (p : ℕ) where
         stmt_failing (block ss) own Γ τ a h = rw (stmts_failing ss (τ ∷ Γ) [] (0 ∷ a) h)
         stmt_failing (while e s) own Γ τ a (inl h) = condition_first r (τ ∷ Γ) e a _ h
         stmt_failing (while e s) own Γ τ a (inr (d, h)) =
-            rw (expr_complete S (τ ∷ Γ) d a) (stmt_failing s true Γ τ (0 ∷ expr_stacked d a) (subst (λ n. StmtBroken S r true Γ τ s (suc n) v p Δ) (sym (expr_place d a)) h))
+            rw (expr_complete S (τ ∷ Γ) d a) (stmt_failing s true Γ τ (0 ∷ expr_stacked d a) (rw (expr_place d a) h))
         stmt_failing (choose e s₁ s₂) own Γ τ a (inl h) = condition_first r (τ ∷ Γ) e a _ h
         stmt_failing (choose e s₁ s₂) own Γ τ a (inr (d, inl h)) =
-            rw (expr_complete S (τ ∷ Γ) d a, stmt_failing s₁ true Γ τ (0 ∷ expr_stacked d a) (subst (λ n. StmtBroken S r true Γ τ s₁ (suc n) v p Δ) (sym (expr_place d a)) h))
+            rw (expr_complete S (τ ∷ Γ) d a, stmt_failing s₁ true Γ τ (0 ∷ expr_stacked d a) (rw (expr_place d a) h))
         stmt_failing (choose e s₁ s₂) own Γ τ a (inr (d, inr (D, h))) =
             let b = 0 ∷ expr_stacked d a in
-            let at = sequence_place D b ∙ ap (λ n. after_stmt s₁ (suc n)) (expr_place d a) in
             rw (expr_complete S (τ ∷ Γ) d a, only_one S r Γ τ s₁ b (sequence_complete S r D b))
-            (stmt_failing s₂ true Γ τ (sequence_stacked D b) (subst (λ n. StmtBroken S r true Γ τ s₂ n v p Δ) (sym at) h))
+            (stmt_failing s₂ true Γ τ (sequence_stacked D b) (rw (sequence_place D b, expr_place d a) h))
 
         stmts_failing : (ss : Stmts) (Γ : Levels) (τ : Table Ty) (a : List ℕ) → StmtsBroken S r Γ τ ss (length a) v p Δ → check_stmts S r Γ τ ss a ≡ Err (fault v p Δ)
         stmts_failing empty Γ τ a h = absurd h
@@ -96,14 +95,12 @@ module _ (S : Signature) (v : Violation) (p : ℕ) where
         stmts_failing (then s ss) Γ τ a (inr (D, h)) =
             let c = sequence_stacked D a in
             rw (sym (bind_unit (check_stmt S r false Γ τ s a)) ∙ sequence_complete S r D a)
-            (stmts_failing ss Γ (top_after false s τ) c
-            (subst (λ (σ : Table Ty). StmtsBroken S r Γ σ ss (length c) v p Δ) (sym (top_level s τ)) (subst (λ n. StmtsBroken S r Γ (stmt_level s τ) ss n v p Δ) (sym (sequence_place D a)) h)))
+            (stmts_failing ss Γ (top_after false s τ) c (rw (top_level s τ, sequence_place D a) h))
 
 pub broken_rule : BrokenRule
 broken_rule S d v p Δ = (
   broken_first S d v p Δ,
   (λ h.
-      let k = stmts_failing S v p Δ d.returns d.body [] (params_level S d) (before_body S d)
-      (subst (λ n. StmtsBroken S d.returns [] (params_level S d) d.body n v p Δ) (sym (blanks_place d.params (0 ∷ []))) h) in
+      let k = stmts_failing S v p Δ d.returns d.body [] (params_level S d) (before_body S d) (rw (blanks_place d.params (0 ∷ [])) h) in
       sheet_written S d ∙ ap (λ m. m >>= λ c. Ok (reverse (0 ∷ c), level_left d ∷ [])) k),
 )
