@@ -144,6 +144,6 @@ module _ (e : Entries cpp) (ok : Orderly cpp e) where
       let b : Book = sheets_below 32 e in
       let S : Signature = signature_from (heads_in cpp e) in
       let decides = book_decides b (all_below e 32) in (
-        (λ v t s i. trees_below S e 32 (subst (λ T. AllWalked T b) same_heads (decides.0 v).2) t s (below_32 t s i) i),
-        (λ d. decides.1 (names_apart 32, params_apart 32, subst (λ T. AllWalked T b) (sym same_heads) (walked_below S e 32 (λ t s l i. d t s i)))),
+        (λ v t s i. trees_below S e 32 (rw same_heads at (decides.0 v).2) t s (below_32 t s i) i),
+        (λ d. decides.1 (names_apart 32, params_apart 32, rw same_heads (walked_below S e 32 (λ t s l i. d t s i)))),
       )

@@ -33,8 +33,8 @@ spelled_hexes (suc w) n =
     let l : d < 16 = mod_below n 16 (omega arith) in
     let ih = spelled_hexes w (n / 16) in
     let e : spelled 0 (hexes w (n / 16) ++ (digit d ∷ [])) ≡ m * 16 + d = spelled_push 0 (hexes w (n / 16)) (digit d) ∙ ap (λ v. m * 16 + v) (value_digit d) in
-    let b : m * 16 + d < 16 ^ suc w = subst (λ k. m * 16 + d < 16 ^ k) (add-one w) (pow_step m d w ih.0 l) in (
-      subst (λ k. k < 16 ^ suc w) (sym e) b,
+    let b : m * 16 + d < 16 ^ suc w = rw add-one at (pow_step m d w ih.0 l) in (
+      rw e b,
       ap (λ k. hexes w (k / 16) ++ (digit (k % 16) ∷ [])) e
           ∙ ap₂ (λ a c. hexes w a ++ (digit c ∷ [])) (div-mul-add m 16 d l) (mod-mul-add m 16 d l)
           ∙ ap (λ xs. xs ++ (digit d ∷ [])) ih.1,
@@ -44,7 +44,7 @@ spelled_hexes (suc w) n =
 spelled_as : (w n : ℕ) (xs : List ℕ) → xs ≡ hexes w n → (spelled 0 xs < 16 ^ w) × (hexes w (spelled 0 xs) ≡ hexes w n)
 spelled_as w n xs e =
     let h = spelled_hexes w n in
-    (subst (λ ys. spelled 0 ys < 16 ^ w) (sym e) h.0, ap (λ ys. hexes w (spelled 0 ys)) e ∙ h.1)
+    (rw e h.0, rw e h.1)
 
 -- ## lines
 

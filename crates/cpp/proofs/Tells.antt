@@ -26,6 +26,6 @@ sheets_tied s d w =
       named = ap sheet_name (sym w) ∙ name_written d;
       packed = ap₂ (λ (qs : List Parameter) (t : Ty). packing.head_of (map type_code (param_types qs)) (type_code t)) (sym ps) (sym r) ∙ head_packed s;
       stands = head_stands s ∙ ap sheet_head (sym w) ∙ head_written d;
-      distinct = subst (λ (qs : List Parameter). (repeated_in s ≡ None) ↔ Distinct (param_names qs)) ps (repeat_distinct (param_names (sheet_params s.frames)));
-      repeats = λ p. subst (λ (qs : List Parameter). (repeated_in s ≡ Some p) ↔ LowestRepeat (param_names qs) p) ps (repeat_lowest (param_names (sheet_params s.frames)) p);
+      distinct = rw (← ps) (repeat_distinct (param_names (sheet_params s.frames)));
+      repeats = λ p. rw (← ps) (repeat_lowest (param_names (sheet_params s.frames)) p);
     }

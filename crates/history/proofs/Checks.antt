@@ -44,14 +44,13 @@ module _ {Frame Def Text : Type 0} (L : Language Frame Def Text) (K : Known L) w
     -- its frames are the entries' own
     pub check_frames : Holds (working_step L book c).frames (λ t. image_at L ((plain L h).entries t))
     unfolding working_after
-    check_frames = subst (λ q. Holds q.frames (λ t. image_at L ((plain L h).entries t))) (sym check_left) l.frames
+    check_frames = rw check_left l.frames
 
     -- its column has the types of the valid sheets
     pub check_column : Holds (working_step L book c).column (λ t. column_at L (heads_in L (plain L h).entries) ((plain L h).entries t))
     unfolding working_after
     check_column =
-        subst (λ q. Holds q.column (λ t. column_at L (heads_in L (plain L h).entries) ((plain L h).entries t))) (sym check_left)
-        (columns_held L K (plain L h) book (sound L h) l)
+        rw check_left (columns_held L K (plain L h) book (sound L h) l)
 
   -- a book that stands as an accepted check says: its areas
   held : (p : Plain L) (book : State Frame) → Stands L (after L p walked) book → Holds book.frames (λ t. image_at L (p.entries t)) × Holds book.column (λ t. column_at L (heads_in L p.entries) (p.entries t))
@@ -78,9 +77,9 @@ module _ {Frame Def Text : Type 0} (L : Language Frame Def Text) (K : Known L) w
           areas = λ q a o lo.
               let w = held_areas g q a o lo in (
                 same_holds book'.frames o.frames (λ t. image_at L ((plain L h).entries t)) (λ t. image_at L ((plain L g).entries t)) (ap (λ f t. image_at L (f t)) (sym same))
-                    (subst (λ v. Holds v.frames (λ t. image_at L ((plain L h).entries t))) (sym e) (check_frames h book l c acc)) w.0,
+                    (rw e (check_frames h book l c acc)) w.0,
                 same_holds book'.column o.column (λ t. column_at L (heads_in L (plain L h).entries) ((plain L h).entries t)) (λ t. column_at L (heads_in L (plain L g).entries) ((plain L g).entries t)) (ap (λ f t. column_at L (heads_in L f) (f t)) (sym same))
-                    (subst (λ v. Holds v.column (λ t. column_at L (heads_in L (plain L h).entries) ((plain L h).entries t))) (sym e) (check_column h book l c acc)) w.1,
+                    (rw e (check_column h book l c acc)) w.1,
               );
         }
 
@@ -91,8 +90,8 @@ module _ {Frame Def Text : Type 0} (L : Language Frame Def Text) (K : Known L) w
           fault = fault_of L (plain L h).entries;
           told = d.answered ∙ check_told h book l c acc;
           decides = decides L K (plain L h) (sound L h);
-          frames = subst (λ q. Holds q.frames (λ t. image_at L ((plain L h).entries t))) (sym d.left) (check_frames h book l c acc);
-          column = subst (λ q. Holds q.column (λ t. column_at L (heads_in L (plain L h).entries) ((plain L h).entries t))) (sym d.left) (check_column h book l c acc);
+          frames = rw d.left (check_frames h book l c acc);
+          column = rw d.left (check_column h book l c acc);
           listed = listed L (plain L h).entries (sound L h).orderly;
           as_fresh = as_fresh book' d.left;
         }

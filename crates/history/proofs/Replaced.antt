@@ -42,7 +42,7 @@ module _ {Frame Def Text : Type 0} (L : Language Frame Def Text) (K : Known L) w
   -- the record of another sheet
   row_other : (h k : Heads) (o w : Option (ℕ × ℕ)) (x y : Option Def) (s : Bool) (b : List Frame) (r m : Option Record) → b ≡ image_at L y → ((n : ℕ) → differ (h n) (k n) ≡ differ (head_for n o) (head_for n w)) → Row L h y (filled y && s) m → NewRow false x h k y s r (marked L o w b m)
   row_other h k o w x y s b r m e hit row =
-      subst (λ f. Row L k y (filled y && ((f || calls_altered L h k y) || s)) (marked L o w b m)) (sym (and_right (filled x) false refl))
+      rw (and_right (filled x) false refl)
       (row_marked L K h k o w y s b m e hit row)
 
   -- the record that the replaced sheet gets
@@ -111,7 +111,7 @@ module _ {Frame Def Text : Type 0} (L : Language Frame Def Text) (K : Known L) w
     -- past the last sheet the row is empty
     row_past : (t : ℕ) → 32 ≤ t → Row L k (updated p.entries s x t) (due L plain_replaced t) None
     row_past t m =
-        subst (λ y. Row L k y (filled y && (touched t || p.since t)) None) (sym (updated_other p.entries s x t (λ i. omega arith) ∙ ok.orderly.small t m)) refl
+        rw (updated_other p.entries s x t (λ i. omega arith), ok.orderly.small t m) refl
 
     -- every row after
     row_replaced : (t : ℕ) → Row L k (updated p.entries s x t) (due L plain_replaced t) (new_records t)

@@ -43,7 +43,7 @@ module _ {Frame Def Text : Type 0} (L : Language Frame Def Text) where
   free_put p s d ok al n f t ne =
       let i = head_for_name n d f in
       elim (cases_lt t 32) [
-        | inl l ↦ subst (λ m. head_for m (signatures L p.entries t) ≡ None) i (al.1 t l ne)
+        | inl l ↦ rw i at (al.1 t l ne)
         | inr l ↦ ap (λ o. head_for n (map_some (signature L) o)) (ok.orderly.small t l)
       ]
 
@@ -67,7 +67,7 @@ module _ {Frame Def Text : Type 0} (L : Language Frame Def Text) where
         orderly =
             record {
               small = λ t h. ap (λ f. f t) e ∙ updated_other p.entries s x t (λ i. omega arith) ∙ ok.orderly.small t h;
-              apart = subst (λ f. Apart (signatures L f)) (sym e) (subst Apart (sym (signatures_updated p.entries s x)) (apart_updated (signatures L p.entries) s (map_some (signature L) x) ok.orderly.apart free));
+              apart = rw e (subst Apart (sym (signatures_updated p.entries s x)) (apart_updated (signatures L p.entries) s (map_some (signature L) x) ok.orderly.apart free));
               single = λ t d. subst (λ f. f t ≡ Some d → repeated d ≡ None) (sym e) (updated_all (λ _ o. o ≡ Some d → repeated d ≡ None) p.entries s x t (λ _. once d) (λ _. ok.orderly.single t d));
             };
         calm = λ y. cc;

@@ -78,9 +78,9 @@ module _ {Frame Def Text : Type 0} (L : Language Frame Def Text) where
   -- the same after a history
   pub touched_words : (h : History L) (c : Call L) (t : ℕ) → Marked h c t → Touched L h c t
   touched_words h c t m =
-      (m.0, m.1, subst (λ k. PutOn L m.0 t ⊎ CallsAltered L (plain L h).entries k t) (sym (entries_next h c m.0 m.1)) (touch_words (plain L h).entries m.0 t m.2))
+      (m.0, m.1, rw (entries_next h c m.0 m.1) (touch_words (plain L h).entries m.0 t m.2))
 
   -- and back
   pub touched_mark : (h : History L) (c : Call L) (t : ℕ) → Touched L h c t → Marked h c t
   touched_mark h c t w =
-      (w.0, w.1, touch_mark (plain L h).entries w.0 t (subst (λ k. PutOn L w.0 t ⊎ CallsAltered L (plain L h).entries k t) (entries_next h c w.0 w.1) w.2))
+      (w.0, w.1, touch_mark (plain L h).entries w.0 t (rw (entries_next h c w.0 w.1) at w.2))

@@ -27,12 +27,12 @@ at_read [] n j k h = absurd h
 at_read (m ∷ c) n zero k (inl h) = h.1
 at_read (m ∷ c) n zero k (inr h) = let l = at_from c (suc n) (n + 0) k h in absurd (omega arith)
 at_read (m ∷ c) n (suc j) k (inl h) = let e = h.0 in absurd (omega arith)
-at_read (m ∷ c) n (suc j) k (inr h) = let e : n + suc j ≡ suc n + j = omega arith in at_read c (suc n) j k (subst (λ q. At (suc n) c q k) e h)
+at_read (m ∷ c) n (suc j) k (inr h) = let e : n + suc j ≡ suc n + j = omega arith in at_read c (suc n) j k (rw e at h)
 
 read_at : (c : List ℕ) (n j k : ℕ) → (0 ≡ k → ⊥) → get_or c j 0 ≡ k → At n c (n + j) k
 read_at [] n j k z h = absurd (z h)
 read_at (m ∷ c) n zero k z h = inl (omega arith, h)
-read_at (m ∷ c) n (suc j) k z h = let e : suc n + j ≡ n + suc j = omega arith in inr (subst (λ q. At (suc n) c q k) e (read_at c (suc n) j k z h))
+read_at (m ∷ c) n (suc j) k z h = let e : suc n + j ≡ n + suc j = omega arith in inr (rw e at (read_at c (suc n) j k z h))
 
 pub column_types : ColumnTypes
 column_types S d D p u =
