@@ -1,10 +1,10 @@
 -- The sheets of a book are a valid program exactly when each has a derivation under the heads of the whole book.
-use Rattle.std.proofs.Common.{◌≡◌, ℕ, zero, suc, ◌<◌, true, eqb, ◌↔◌, Some, None, Option, sym, refl, ap, ◌∙◌, subst, inl, inr, arith}
+use Rattle.std.proofs.Common.{◌≡◌, ℕ, zero, suc, ◌<◌, true, ◌↔◌, Some, None, Option, sym, refl, ap, ◌∙◌, subst, inl, inr, arith}
 use mathlib.Core.Path.{fun_ext}
-use Rattle.std.proofs.lemmas.Bool.{cond-true, cond-false, cases_eq, cases_lt, eq-eqb, ne_eqb}
+use Rattle.std.proofs.lemmas.Bool.{cases_eq, cases_lt, eq-eqb, ne_eqb}
 use Rattle.levels.specs.Store.{find}
 use Rattle.rules.specs.Heads.{Signature}
-use Rattle.rules.specs.Books.{Book, sheet_head, book_heads, AllSheets, NamesApart, ParamsApart, AllWalked}
+use Rattle.rules.specs.Books.{Book, book_heads, AllSheets, NamesApart, ParamsApart, AllWalked}
 use Rattle.rules.proofs.Books.{book_decides}
 use Rattle.history.specs.Words.{or_else, lowest, map_some, filled}
 use Rattle.history.specs.Language.{head_for, heads_of, Entries, signature, signatures, heads_in, BookDerives}
@@ -12,7 +12,7 @@ use Rattle.history.specs.Stands.{Orderly}
 use Rattle.history.proofs.Words.{or_else_none, lowest_none}
 use Rattle.history.proofs.Heads.{alone_of}
 use Rattle.cpp.specs.Sheet.{Sheet}
-use Rattle.cpp.specs.Heads.{head_from, signature_from, name_of, head_number}
+use Rattle.cpp.specs.Heads.{head_from, signature_from, name_of}
 use Rattle.cpp.specs.Judge.{Derivation}
 use Rattle.cpp.specs.Books.{with_sheet, sheets_below, ValidSheets}
 use Rattle.cpp.specs.Cpp.{cpp}

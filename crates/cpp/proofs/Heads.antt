@@ -1,7 +1,7 @@
 -- The number of a sheet's head stands for that head.
-use Rattle.std.proofs.Common.{◌≡◌, ◌≤◌, true, ◌&&◌, ltb, List, [], ◌∷◌, map, length, Some, None, sym, refl, ap, ◌∙◌, ap₂, arith}
+use Rattle.std.proofs.Common.{◌≡◌, ◌≤◌, true, ◌&&◌, ltb, List, [], ◌∷◌, map, length, Some, sym, refl, ap, ◌∙◌, ap₂, arith}
 use Rattle.std.proofs.lemmas.List.{length-map}
-use Rattle.std.proofs.lemmas.Bool.{cond-true, and_from, lt-ltb}
+use Rattle.std.proofs.lemmas.Bool.{and_from, lt-ltb}
 use Rattle.syntax.specs.declared.frame.«Type».{«Type» as Ty}
 use Rattle.syntax.specs.declared.frame.«Type».TheVariants.{Bool, Int, Double, String, Void}
 use Rattle.syntax.specs.declared.frame.Parameter.{Parameter}

@@ -1,5 +1,5 @@
 -- The frames that end an expression are those whose kind adds an operand.
-use Rattle.std.proofs.Common.{◌≡◌, ℕ, zero, suc, ◌<◌, ◌≤◌, Bool, true, false, ◌&&◌, leb, sym, refl, ap, ◌∙◌, inl, inr, arith}
+use Rattle.std.proofs.Common.{◌≡◌, ℕ, ◌≤◌, true, false, leb, refl, ap, ◌∙◌, inl, inr, arith}
 use Rattle.std.proofs.lemmas.Bool.{agree_below, agree_below_at, cases_lt, and_right, or_from, lt-leb}
 use Rattle.syntax.specs.Writing.{frame}
 use Rattle.syntax.specs.Kinds.{row, from}

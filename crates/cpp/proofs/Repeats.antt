@@ -1,6 +1,6 @@
 -- There is no first repeat exactly where no name stands twice.
-use Rattle.std.proofs.Common.{◌≡◌, ℕ, suc, Bool, true, false, cond, eqb, ◌↔◌, List, [], ◌∷◌, Some, None, sym, refl, ◌∙◌}
-use Rattle.std.proofs.lemmas.Bool.{cond-false, or_parts, or_from}
+use Rattle.std.proofs.Common.{◌≡◌, ℕ, suc, Bool, true, false, cond, eqb, ◌↔◌, List, [], ◌∷◌, Some, None, refl, ◌∙◌}
+use Rattle.std.proofs.lemmas.Bool.{or_parts, or_from}
 use Rattle.rules.specs.Sequences.{NotIn, Distinct}
 use Rattle.rules.specs.Programs.{param_names}
 use Rattle.rules.specs.Books.{sheet_params}

@@ -1,5 +1,5 @@
 -- A sheet is its frames, and form gives it back from them.
-use Rattle.std.proofs.Common.{◌≡◌, ℕ, ◌≤◌, Bool, true, false, T, List, length, Ok, Err, sym, refl, ap, ◌∙◌, subst, arith}
+use Rattle.std.proofs.Common.{◌≡◌, ◌≤◌, Bool, true, false, T, List, length, Ok, Err, sym, refl, ap, ◌∙◌, subst}
 use lib.Dec.{T_prop}
 use Rattle.syntax.specs.declared.frame.Frame.{Frame}
 use Rattle.syntax.specs.Trees.{Definition}

@@ -1,17 +1,16 @@
 -- A sheet's name, number of head and first repeat are those of the definition that it writes.
-use Rattle.std.proofs.Common.{◌≡◌, ◌↔◌, List, map, Some, None, sym, ap, ◌∙◌, subst, ap₂}
+use Rattle.std.proofs.Common.{◌≡◌, List, map, sym, ap, ◌∙◌, ap₂}
 use Rattle.syntax.specs.declared.frame.«Type».{«Type» as Ty}
 use Rattle.syntax.specs.declared.frame.Parameter.{Parameter}
 use Rattle.syntax.specs.Writing.{type_code}
 use Rattle.heads.specs.Heads as packing
-use Rattle.rules.specs.Sequences.{Distinct}
 use Rattle.rules.specs.Programs.{param_names, param_types}
 use Rattle.rules.specs.Walk.{returned}
 use Rattle.rules.specs.Books.{sheet_name, sheet_params, sheet_head}
 use Rattle.rules.proofs.Decoded.{returned_written}
 use Rattle.rules.proofs.Books.{params_written, name_written, head_written}
 use Rattle.cpp.specs.Heads.{repeated_in}
-use Rattle.cpp.specs.Tells.{LowestRepeat, SheetsTied}
+use Rattle.cpp.specs.Tells.{SheetsTied}
 use Rattle.cpp.proofs.Heads.{head_stands, head_packed}
 use Rattle.cpp.proofs.Repeats.{repeat_distinct}
 use Rattle.cpp.proofs.Lowest.{repeat_lowest}

@@ -1,6 +1,6 @@
 -- Which calls the plain book accepts, in words.
-use Rattle.std.proofs.Common.{◌≡◌, ℕ, ◌<◌, ◌≤◌, Bool, true, false, not, ◌||◌, eqb, ltb, ◌↔◌, List, Some, None, Ok, Err, Option, Result, sym, refl, ap, ◌∙◌, subst, inl, inr, arith}
-use Rattle.std.proofs.lemmas.Bool.{cond-false, cases_lt, eq-eqb, ne_eqb, or_parts, le-ltb, ltb-false, not-false}
+use Rattle.std.proofs.Common.{◌≡◌, ℕ, ◌<◌, ◌≤◌, Bool, true, false, not, ◌||◌, ltb, ◌↔◌, List, Some, None, Ok, Err, Option, Result, sym, refl, ap, ◌∙◌, subst, inl, inr, arith}
+use Rattle.std.proofs.lemmas.Bool.{cases_lt, eq-eqb, ne_eqb, or_parts, le-ltb, ltb-false, not-false}
 use Rattle.history.specs.Words.{updated, map_some, filled}
 use Rattle.history.specs.Language.{Fault, Signatures, head_for, Language, Entries, signature, signatures}
 use Rattle.history.specs.Calls.{refusal, sized, Call.post, Call.put, Call.clear, Call.check, History, Act, Act.wrote, Act.emptied, Act.walked, guard, elsewhere, putting, formed, posting, clearing, outcome, Answer.done}

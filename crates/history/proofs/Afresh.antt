@@ -2,7 +2,7 @@
 use Rattle.std.proofs.Common.{◌≡◌, ℕ, ◌<◌, Bool, true, false, cond, ◌&&◌, ◌||◌, eqb, List, [], ◌∷◌, Some, None, Ok, Option, sym, refl, ap, ◌∙◌, ap₂, inl, inr, arith}
 use mathlib.Core.Path.{fun_ext}
 use Rattle.std.proofs.Math.Bool.{and-true}
-use Rattle.std.proofs.lemmas.Bool.{cond-true, cases_lt, eq-eqb, cond_both, eqb-true, le-ltb, or_right}
+use Rattle.std.proofs.lemmas.Bool.{cases_lt, eq-eqb, cond_both, eqb-true, le-ltb, or_right}
 use Rattle.std.proofs.lemmas.List.{length-replicate}
 use Rattle.history.specs.Words.{updated, count_below, any_of, map_some, filled}
 use Rattle.history.specs.Language.{head_for, Language, Entries, signature, signatures}

@@ -1,6 +1,6 @@
 -- A sheet is marked exactly if after each of its walks came a call that touched it.
 use Rattle.std.proofs.Common.{◌≡◌, ℕ, Bool, true, false, cond, ◌||◌, ◌⊎◌, [], ◌∷◌, ◌++◌, Ok, Err, Result, sym, refl, ap, ◌∙◌, subst, inl, inr}
-use Rattle.std.proofs.lemmas.Bool.{cond-true, cond-false, cases_Bool, both_ways, or_cases, or_left, or_right}
+use Rattle.std.proofs.lemmas.Bool.{cond-false, cases_Bool, or_cases, or_left, or_right}
 use Rattle.history.specs.Language.{Fault, Language, signatures}
 use Rattle.history.specs.Calls.{Call, History, Act, Act.wrote, Act.emptied, Act.walked, outcome}
 use Rattle.history.specs.Plain.{touches, Plain, due, walks, after, stepped, plain}

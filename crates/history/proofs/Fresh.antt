@@ -1,6 +1,6 @@
 -- Where a history begins: a new book, and a book made by an accepted fresh from any state.
 use Rattle.std.proofs.Common.{◌≡◌, ℕ, ◌-◌, ◌*◌, ◌<◌, Bool, true, false, cond, eqb, ◌↔◌, List, [], length, take, replicate, Some, None, Option, sym, refl, ap, ◌∙◌, subst, arith}
-use Rattle.std.proofs.lemmas.Bool.{cond-true, eq-eqb, eqb-true, and_parts, and_from}
+use Rattle.std.proofs.lemmas.Bool.{eqb-true, and_parts}
 use Rattle.std.proofs.lemmas.List.{length-replicate, take-replicate, drop-replicate}
 use Rattle.history.specs.Words.{filled}
 use Rattle.history.specs.Language.{Fault, zeros, Language, blanks}

@@ -1,6 +1,6 @@
 -- Head tables: where they agree, and what becomes of them when one sheet's signature is replaced.
 use Rattle.std.proofs.Common.{◌≡◌, ℕ, ◌<◌, true, false, not, eqb, List, [], ◌∷◌, Some, None, Option, sym, refl, ap, ◌∙◌, ap₂, inl, inr}
-use Rattle.std.proofs.lemmas.Bool.{cases_Bool, eq-eqb, both_ways, or_parts, eqb-true, not-false}
+use Rattle.std.proofs.lemmas.Bool.{cases_Bool, eq-eqb, or_parts, eqb-true, not-false}
 use Rattle.history.specs.Words.{updated, any_of, filled}
 use Rattle.history.specs.Language.{Heads, Signatures, head_for, differ, heads_of, Agree}
 use Rattle.history.specs.Stands.{Apart}

@@ -1,6 +1,6 @@
 -- Due by the recursion over the history is due by its sentence: the last walk of a sheet stands for all of its walks.
 use Rattle.std.proofs.Common.{◌≡◌, ℕ, true, ◌⊎◌, ◌↔◌, [], ◌∷◌, ◌++◌, Ok, Err, Result, sym, refl, ap, ◌∙◌, subst, ap₂, inl, inr, append_assoc}
-use Rattle.std.proofs.lemmas.Bool.{cases_Bool, both_ways, and_parts, and_from}
+use Rattle.std.proofs.lemmas.Bool.{cases_Bool, and_parts, and_from}
 use Rattle.history.specs.Words.{filled}
 use Rattle.history.specs.Language.{Fault, Language}
 use Rattle.history.specs.Calls.{Call, History, Act, Act.wrote, Act.emptied, Act.walked}

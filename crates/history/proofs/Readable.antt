@@ -1,6 +1,6 @@
 -- The type reader and its questions answer as the law says.
 use Rattle.std.proofs.Common.{◌≡◌, ℕ, ◌-◌, ◌<◌, ◌≤◌, Bool, true, cond, ◌&&◌, ltb, ◌↔◌, List, length, get_or, replicate, Some, None, Ok, Err, Option, refl, ap, ◌∙◌, subst, inl, inr, arith}
-use Rattle.std.proofs.lemmas.Bool.{and_parts, cond-true, cond-false, cases_Bool, lt-ltb, le-ltb, ltb-true}
+use Rattle.std.proofs.lemmas.Bool.{and_parts, cond-true, cases_Bool, lt-ltb, le-ltb, ltb-true}
 use Rattle.std.proofs.lemmas.List.{get_or_append_left}
 use Rattle.history.specs.Language.{Heads, column_of, Blame, as_type, Language, size, image, heads_in}
 use Rattle.history.specs.Calls.{refusal, sized, reader_refusal, History}

@@ -1,6 +1,6 @@
 -- Put and clear keep the working book in step with the plain one.
 use Rattle.std.proofs.Common.{◌≡◌, ℕ, ◌+◌, ◌*◌, ◌<◌, ◌≤◌, Bool, true, false, cond, ◌&&◌, ◌||◌, eqb, List, Some, None, Option, sym, refl, ap, ◌∙◌, subst, inl, inr, arith}
-use Rattle.std.proofs.lemmas.Bool.{and_right, cond-false, cases_lt, cases_Bool, ne_eqb, or_parts, eqb-true, eqb-false}
+use Rattle.std.proofs.lemmas.Bool.{and_right, cases_lt, cases_Bool, ne_eqb, or_parts, eqb-true, eqb-false}
 use Rattle.history.specs.Words.{updated, map_some, filled}
 use Rattle.history.specs.Language.{Heads, head_for, differ, heads_of, zeros, Language, signature, signatures, heads_in}
 use Rattle.history.specs.Plain.{calls_altered, Plain, due}

@@ -1,6 +1,6 @@
 -- What an accepted check makes of each sheet, from any state.
 use Rattle.std.proofs.Common.{◌≡◌, ℕ, ◌<◌, true, cond, not, ◌&&◌, eqb, List, length, take, Some, None, Ok, Err, Option, Result, sym, refl, ap, ◌∙◌, subst, ap₂, inl, inr, arith}
-use Rattle.std.proofs.lemmas.Bool.{cond-true, cond-false, cases_Bool, eq-eqb, cond_both, eqb-true, not-true, and_parts}
+use Rattle.std.proofs.lemmas.Bool.{cond-false, cases_Bool, eq-eqb, cond_both, eqb-true, not-true, and_parts}
 use Rattle.history.specs.Words.{lowest, count_below, filled}
 use Rattle.history.specs.Language.{Fault, Verdict, Verdict.bad, Heads, heads_of, column_of, blame, Language}
 use Rattle.history.specs.Calls.{Call, Act.walked, outcome, Answer, Answer.checked}

@@ -1,9 +1,8 @@
 -- What a question is answered, from any state.
-use Rattle.std.proofs.Common.{◌≡◌, ℕ, ◌<◌, ◌≤◌, ◌&&◌, ltb, ◌↔◌, get_or, Some, None, Ok, Err, Option, refl, ap, ◌∙◌, arith}
-use Rattle.std.proofs.lemmas.Bool.{cond-false, lt-ltb, le-ltb, ltb-true, and_parts}
+use Rattle.std.proofs.Common.{◌≡◌, ℕ, ◌<◌, ◌≤◌, ◌&&◌, ltb, ◌↔◌, get_or, Some, None, Ok, Option, refl, ap, ◌∙◌, arith}
+use Rattle.std.proofs.lemmas.Bool.{lt-ltb, le-ltb, ltb-true, and_parts}
 use Rattle.std.proofs.lemmas.Option.{cond_some}
 use Rattle.history.specs.Language.{as_type, Language}
-use Rattle.history.specs.Calls.{refusal}
 use Rattle.history.specs.Areas.{part}
 use Rattle.history.specs.Working.{Record, State, record_at, type_asked, asked}
 use Rattle.history.specs.Readable.{Shown}

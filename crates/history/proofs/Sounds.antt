@@ -1,7 +1,7 @@
 -- What every history keeps of the plain book.
 use Rattle.std.proofs.Common.{◌≡◌, ℕ, ◌<◌, Bool, true, false, cond, ◌&&◌, ◌||◌, eqb, [], ◌∷◌, Some, None, Ok, Err, Option, Result, sym, refl, ap, ◌∙◌, subst, inl, inr, arith}
 use mathlib.Core.Path.{fun_ext}
-use Rattle.std.proofs.lemmas.Bool.{cond-false, cases_lt, cases_Bool, both_ways, eqb-true, not-true}
+use Rattle.std.proofs.lemmas.Bool.{cases_lt, cases_Bool, eqb-true, not-true}
 use Rattle.history.specs.Words.{updated, map_some, filled}
 use Rattle.history.specs.Language.{Fault, Signatures, head_for, Language, Entries, signature, signatures}
 use Rattle.history.specs.Calls.{History, Act, Act.wrote, Act.emptied, Act.walked, outcome}

@@ -1,5 +1,5 @@
 -- A touched sheet by the plain book's mark is one by the sentence.
-use Rattle.std.proofs.Common.{◌≡◌, ℕ, Bool, true, eqb, ◌⊎◌, List, [], ◌∷◌, Some, None, Ok, Option, sym, refl, ap, ◌∙◌, subst, inl, inr}
+use Rattle.std.proofs.Common.{◌≡◌, ℕ, Bool, true, eqb, ◌⊎◌, List, [], ◌∷◌, Some, None, Ok, Option, refl, ap, ◌∙◌, subst, inl, inr}
 use Rattle.std.proofs.lemmas.Bool.{eq-eqb, eqb-true, or_cases, or_left, or_right}
 use Rattle.history.specs.Words.{any_of, Among}
 use Rattle.history.specs.Language.{differ, Language, Entries, heads_in}

@@ -1,9 +1,9 @@
 -- A check keeps the working book in step with the plain one.
 use Rattle.std.proofs.Common.{◌≡◌, ℕ, ◌≤◌, Bool, true, false, not, ◌&&◌, List, length, take, Some, None, Option, sym, refl, ap, ◌∙◌, subst, ap₂, inl, inr, arith}
 use mathlib.Core.Path.{fun_ext}
-use Rattle.std.proofs.lemmas.Bool.{cond-true, cases_lt, eq-eqb, cond_both}
+use Rattle.std.proofs.lemmas.Bool.{cases_lt, eq-eqb, cond_both}
 use Rattle.history.specs.Words.{lowest, count_below, map_some, filled}
-use Rattle.history.specs.Language.{Verdict.bad, Heads, heads_of, column_of, Blame, blame, Language, size, image, heads_in}
+use Rattle.history.specs.Language.{Heads, heads_of, column_of, Blame, blame, Language, size, image, heads_in}
 use Rattle.history.specs.Calls.{Act.walked}
 use Rattle.history.specs.Plain.{entries_after, fault_at, fault_of, Plain, due, valid_after, after}
 use Rattle.history.specs.Areas.{part, rewritten, Holds}

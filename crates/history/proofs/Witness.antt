@@ -1,6 +1,6 @@
 -- The small language is of the kind that the law asks for.
-use Rattle.std.proofs.Common.{◌≡◌, ℕ, zero, suc, ◌<◌, ◌≤◌, true, eqb, ◌↔◌, List, [], ◌∷◌, length, get_or, Some, None, Ok, Option, sym, refl, ap, ◌∙◌, inl, inr, arith, lit≤}
-use Rattle.std.proofs.lemmas.Bool.{cond-true, cases_Bool, eq-eqb, cond_both, eqb-true, le-ltb}
+use Rattle.std.proofs.Common.{◌≡◌, ℕ, zero, suc, ◌<◌, ◌≤◌, true, eqb, ◌↔◌, List, [], ◌∷◌, length, get_or, Some, None, Ok, Option, sym, refl, ap, inl, inr, arith, lit≤}
+use Rattle.std.proofs.lemmas.Bool.{cases_Bool, eq-eqb, cond_both, eqb-true, le-ltb}
 use Rattle.history.specs.Language.{Verdict.good, Verdict.bad, Heads, Agree, zeros, column_of, type_at}
 use Rattle.history.specs.Known.{Known}
 use Rattle.history.specs.Example.{Frame, Frame.nothing, Frame.title, Frame.call, body_frames, is_call, called, formed_from, call_column, judge_call, judge_body, Derives, CallTyped, example}

@@ -6,8 +6,7 @@ use Rattle.syntax.specs.Writing.{Token, END, frame_of, write_params, write_stmts
 use Rattle.syntax.specs.Types.{param_of}
 use Rattle.levels.specs.Store.{find}
 use Rattle.rules.specs.Heads.{Head, head, Signature, Table}
-use Rattle.rules.specs.Sequences.{Distinct}
-use Rattle.rules.specs.Programs.{Program, param_names, param_types, head_of, Generates, none_generates, more_generates, Consistent, none_consistent, more_consistent, Valid, program_valid}
+use Rattle.rules.specs.Programs.{Program, param_types, head_of, Generates, none_generates, more_generates, Consistent, none_consistent, more_consistent, Valid, program_valid}
 use Rattle.rules.specs.Walk.{walk_sheet}
 use Rattle.rules.specs.Books.{sheet_name, sheet_params, sheet_head, Book, book_heads, AllSheets, Writes, ValidBook, NamesApart, ParamsApart, AllWalked, BookDecides, HeadsOnce}
 use Rattle.rules.proofs.Results.{type_back}

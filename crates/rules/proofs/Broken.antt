@@ -1,18 +1,18 @@
 -- What a judgement that fails says, in the words of the rules.
-use Rattle.std.proofs.Common.{◌≡◌, ℕ, Bool as Truth, true, false, not, eqb, List, ◌∷◌, length, is_some, Some, None, Ok, Err, Option, Result, sym, refl, ap, ◌∙◌, subst}
-use Rattle.std.proofs.lemmas.Bool.{eqb-true, eqb-false, false≢true}
+use Rattle.std.proofs.Common.{◌≡◌, ℕ, Bool as Truth, true, false, eqb, List, ◌∷◌, length, Some, None, Ok, Err, Option, Result, refl, subst}
+use Rattle.std.proofs.lemmas.Bool.{eqb-true, eqb-false}
 use Rattle.syntax.specs.declared.frame.«Type».{«Type» as Ty}
 use Rattle.syntax.specs.declared.frame.«Type».TheVariants.{Bool}
 use Rattle.syntax.specs.Trees.{Operator, Update}
-use Rattle.levels.specs.Store.{find, looked}
+use Rattle.levels.specs.Store.{looked}
 use Rattle.rules.specs.declared.violation.Violation.{Violation}
 use Rattle.rules.specs.declared.violation.Violation.TheVariants.{Undeclared, NoFunction, OtherCount, OtherArgument, OtherOperands, OtherAssigned, OtherInitial, Repeated, OtherReturn, NoCondition}
 use Rattle.rules.specs.Heads.{Head, head, Signature, Table, Levels}
 use Rattle.rules.specs.Faults.{◌>>=◌, need, require}
 use Rattle.rules.specs.Judge.{arithmetic, row, same, same_all, judge_variable, judge_update, judge_arguments, judge_call, judge_binary, judge_assign, judge_init, judge_return, judge_condition}
 use Rattle.rules.specs.Broken.{VariableBroken, undeclared, UpdateBroken, update_undeclared, update_outside_row, CallBroken, no_function, other_count, other_argument, BinaryBroken, operands_differ, operands_outside_row, AssignBroken, assign_undeclared, other_assigned, InitBroken, other_initial, initial_repeated, ReturnBroken, other_return, ConditionBroken, no_condition}
-use Rattle.rules.proofs.Results.{no_answer, needed, required, same_self, same_true, same_all_self}
-use Rattle.rules.proofs.Rows.{none_some, row_some, update_some}
+use Rattle.rules.proofs.Results.{needed, required, same_self, same_true, same_all_self}
+use Rattle.rules.proofs.Rows.{row_some, update_some}
 
 -- ===== chains that fail =====
 pub fails : {A B E C : Type 0} (m : Result A E) (f : A → Result B E) {x : E} → (m >>= f) ≡ Err x → (m ≡ Err x → C) → ((a : A) → m ≡ Ok a → f a ≡ Err x → C) → C

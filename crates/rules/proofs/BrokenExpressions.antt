@@ -10,7 +10,6 @@ use Rattle.rules.specs.Places.{after_expr, after_exprs, after_each, after_stmt, 
 use Rattle.rules.specs.Faults.{fault, ◌>>=◌, placed}
 use Rattle.rules.specs.Judge.{judge_call, judge_binary, judge_assign}
 use Rattle.rules.specs.Broken.{ExprBroken, ExprsBroken, ThenBroken}
-use Rattle.rules.proofs.Results.{answers_same}
 use Rattle.rules.proofs.Checker.{Typed, check_expr, check_exprs}
 use Rattle.rules.proofs.Stacked.{expr_stacked, arguments_stacked, blanks_stacked, sequence_stacked}
 use Rattle.rules.proofs.Expressions.{expr_complete, arguments_complete, expr_sound, exprs_sound}

@@ -1,5 +1,5 @@
 -- The first name that a declaration may not have.
-use Rattle.std.proofs.Common.{◌≡◌, ℕ, Bool as Truth, true, false, cond, List, [], ◌∷◌, ◌++◌, length, Ok, Err, sym, refl, ap, ◌∙◌}
+use Rattle.std.proofs.Common.{◌≡◌, ℕ, Bool as Truth, cond, List, [], ◌∷◌, ◌++◌, length, Ok, Err, sym, refl, ap, ◌∙◌}
 use Rattle.syntax.specs.declared.frame.«Type».{«Type» as Ty}
 use Rattle.rules.specs.declared.violation.Violation.{Violation}
 use Rattle.rules.specs.declared.violation.Violation.TheVariants.{Repeated}
@@ -10,7 +10,6 @@ use Rattle.rules.specs.Faults.{fault, ◌>>=◌, placed}
 use Rattle.rules.specs.Judge.{judge_name}
 use Rattle.rules.specs.Broken.{NamesBroken}
 use Rattle.rules.proofs.Checker.{check_names}
-use Rattle.rules.proofs.Results.{no_answer}
 use Rattle.rules.proofs.Statements.{free_of_none, names_sound, names_complete}
 use Rattle.rules.proofs.Walks.{kept_rest, kept_none}
 use Rattle.rules.proofs.Broken.{fails, requires_false}

@@ -13,7 +13,6 @@ use Rattle.rules.specs.Faults.{Fault, fault, ◌>>=◌}
 use Rattle.rules.specs.Judge.{judge_init, judge_return, judge_condition}
 use Rattle.rules.specs.Walk.{walk_sheet}
 use Rattle.rules.specs.Broken.{ThenBroken, InitBroken, ReturnBroken, ConditionBroken, StmtBroken, StmtsBroken, Broken}
-use Rattle.rules.proofs.Results.{answers_same}
 use Rattle.rules.proofs.Checker.{check_expr, top_after, closing, check_stmt, check_stmts}
 use Rattle.rules.proofs.Expressions.{expr_sound}
 use Rattle.rules.proofs.Statements.{only_one, sequence_complete, stmt_sound, condition_judged, closing_judged, expr_as}

@@ -1,12 +1,11 @@
 -- The walk decides the rules.
 use Rattle.std.proofs.Common.{◌≡◌, ℕ, true, false, ◌↔◌, List, [], ◌∷◌, reverse, Ok, Result, sym, refl, ap, ◌∙◌, ap₂}
-use Rattle.std.proofs.lemmas.Bool.{false≢true}
 use Rattle.syntax.specs.declared.frame.Frame.{Frame}
 use Rattle.syntax.specs.declared.frame.«Type».{«Type» as Ty}
 use Rattle.syntax.specs.Trees.{Stmt, perform, declare, init, return_nothing, return_value, block, while, choose, Stmts, empty, then, Definition}
 use Rattle.syntax.specs.Writing.{END, write_stmts, written}
 use Rattle.syntax.specs.Limits.{Within}
-use Rattle.syntax.specs.Form.{fine, refused, Verdict, accepted, forms, is_fine, is_sheet}
+use Rattle.syntax.specs.Form.{is_sheet}
 use Rattle.syntax.proofs.Law.{sheet_tree}
 use Rattle.rules.specs.Heads.{Signature, Table, Levels}
 use Rattle.rules.specs.Sequences.{declare_params, ValidDefinition}

@@ -1,14 +1,14 @@
 -- Where a definition first breaks a rule the walk has its fault.
-use Rattle.std.proofs.Common.{◌≡◌, ℕ, suc, Bool as Truth, true, false, List, [], ◌∷◌, reverse, length, Ok, Err, Result, sym, refl, ap, ◌∙◌, subst, inl, inr}
+use Rattle.std.proofs.Common.{◌≡◌, ℕ, Bool as Truth, true, false, List, [], ◌∷◌, reverse, length, Ok, Err, Result, sym, refl, ap, ◌∙◌, inl, inr}
 use Rattle.syntax.specs.declared.frame.«Type».{«Type» as Ty}
 use Rattle.syntax.specs.declared.frame.«Type».TheVariants.{Void}
 use Rattle.syntax.specs.Trees.{Expr, literal, variable, update, call, binary, assign, Exprs, none, more, Stmt, perform, declare, init, return_nothing, return_value, block, while, choose, Stmts, empty, then}
 use Rattle.rules.specs.declared.violation.Violation.{Violation}
 use Rattle.rules.specs.Heads.{Signature, Table, Levels}
-use Rattle.rules.specs.Places.{after_expr, after_stmt}
+use Rattle.rules.specs.Places.{after_expr}
 use Rattle.rules.specs.Faults.{Fault, fault, ◌>>=◌, placed}
 use Rattle.rules.specs.Judge.{judge_variable, judge_update, judge_call, judge_binary, judge_assign, judge_init, judge_return, judge_condition}
-use Rattle.rules.specs.Decided.{stmt_level, level_left}
+use Rattle.rules.specs.Decided.{level_left}
 use Rattle.rules.specs.Broken.{ExprBroken, ExprsBroken, ThenBroken, InitBroken, ReturnBroken, ConditionBroken, StmtBroken, StmtsBroken, BrokenRule}
 use Rattle.rules.proofs.Results.{bind_unit}
 use Rattle.rules.proofs.Checker.{Typed, ended, check_expr, check_exprs, top_after, closing, check_stmt, check_stmts}

@@ -11,7 +11,6 @@ use Rattle.rules.specs.Faults.{number, Fault, fault, ◌>>=◌, placed}
 use Rattle.rules.specs.Tokens.{token}
 use Rattle.rules.specs.Walk.{State, move, step, walk, start, returned, walk_frames}
 use Rattle.rules.specs.First.{FirstFault}
-use Rattle.rules.proofs.Results.{no_answer}
 use Rattle.rules.proofs.Moves.{Passes, Grown, move_grown}
 
 number_range : (v : Violation) → (51 ≤ number v) × (number v ≤ 60)

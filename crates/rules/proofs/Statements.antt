@@ -1,5 +1,5 @@
 -- The checker of statements answers exactly where a derivation is, with its column.
-use Rattle.std.proofs.Common.{◌≡◌, ℕ, Bool as Truth, true, false, cond, not, eqb, List, [], ◌∷◌, length, is_some, Some, None, Ok, Err, Option, Result, sym, refl, ◌∙◌, subst}
+use Rattle.std.proofs.Common.{◌≡◌, ℕ, Bool as Truth, true, false, cond, eqb, List, [], ◌∷◌, length, is_some, Some, None, Ok, Err, Option, Result, sym, refl, ◌∙◌, subst}
 use Rattle.std.proofs.lemmas.Bool.{or_parts, not-true}
 use Rattle.syntax.specs.declared.frame.«Type».{«Type» as Ty}
 use Rattle.syntax.specs.declared.frame.«Type».TheVariants.{Bool, Void}
@@ -14,7 +14,7 @@ use Rattle.rules.specs.Faults.{require, placed}
 use Rattle.rules.specs.Judge.{same, among, judge_name, judge_init, judge_return, judge_condition}
 use Rattle.rules.proofs.Checker.{check_expr, check_names, top_after, closing, check_stmt, check_stmts}
 use Rattle.rules.proofs.Stacked.{expr_stacked, blanks_stacked, sequence_stacked}
-use Rattle.rules.proofs.Results.{no_answer, answers_same, bound, required, placed_answer, bind_unit, same_self, same_true}
+use Rattle.rules.proofs.Results.{bound, required, placed_answer, bind_unit, same_self, same_true}
 use Rattle.rules.proofs.Expressions.{expr_complete, expr_sound}
 
 -- ===== names =====

@@ -1,5 +1,5 @@
 -- The walk over the writing of a tree ends as the checker of that tree does.
-use Rattle.std.proofs.Common.{◌≡◌, ℕ, suc, Bool as Truth, true, false, cond, List, [], ◌∷◌, ◌++◌, reverse, length, take, drop, Ok, Err, Result, sym, refl, ap, ◌∙◌}
+use Rattle.std.proofs.Common.{◌≡◌, ℕ, Bool as Truth, true, false, cond, List, [], ◌∷◌, reverse, length, take, drop, Ok, Err, Result, sym, refl, ap, ◌∙◌}
 use mathlib.Core.List.{reverse_aux, reverse_aux-eq, reverse-reverse}
 use Rattle.std.proofs.lemmas.List.{length-reverse, take_at, drop_at}
 use Rattle.syntax.specs.declared.frame.«Type».{«Type» as Ty}

@@ -1,14 +1,12 @@
 -- The form accepts exactly the writings of trees within the limits, each of one tree.
 use Rattle.std.proofs.Common.{◌≡◌, ℕ, ◌+◌, ◌≤◌, Bool, true, false, cond, ltb, List, [], ◌∷◌, map, length, sym, refl, ap, ◌∙◌, subst, ap₂, Some, None, Option}
 use Rattle.std.specs.Option.{option_and_then, option_map}
-use Rattle.std.proofs.lemmas.Bool.{ltb-false, le-ltb, cond-false}
+use Rattle.std.proofs.lemmas.Bool.{ltb-false, le-ltb}
 use Rattle.std.proofs.lemmas.Option.{cond_some}
 use Rattle.syntax.specs.declared.frame.Frame.{Frame}
-use Rattle.syntax.specs.declared.kinds.Row.{Row}
 use Rattle.syntax.specs.Trees.{Definition}
 use Rattle.syntax.specs.Writing.{Token, HEAD, PARAM, END, DO, DECL, NAME, INIT, RETV, RET, OPEN, CLOSE, WHILE, IF, LITERAL, VARIABLE, CALL, UPDATE, BINARY, ASSIGN, frame_of, write_definition, written}
 use Rattle.syntax.specs.Limits.{Within}
-use Rattle.syntax.specs.Kinds.{fields_fit}
 use Rattle.syntax.specs.Form.{Answer, fine, refused, Verdict, accepted, State, has_ended, allow, step, ending, run, start, forms}
 use Rattle.syntax.proofs.Builder.{when, Tree, nothing_yet, taking_params, building, taking_names, done, build, builds}
 use Rattle.syntax.proofs.Flattened.{built}
