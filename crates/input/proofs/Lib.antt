@@ -1,0 +1,4 @@
+pub mod LineLaws
+pub mod PieceLaws
+pub mod CutLaw
+pub mod ReadLaws
