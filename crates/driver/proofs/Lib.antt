@@ -1,4 +1,1 @@
-pub mod LineLaws
-pub mod PieceLaws
-pub mod CutLaw
 pub mod RunLaws

@@ -1,11 +1,12 @@
-// Drives the checker over an input: cuts it into pieces, reads each, and says what came of it.
+// Drives the reading over an input: cuts it into pieces, reads and forms each, and says what came of it.
 
 #![tactic(auto)]
 
 pub mod outcome;
-pub mod pieces;
+mod reporting;
 pub mod running;
 
-pub use outcome::Outcome;
-pub use pieces::cut;
+pub use input::cut;
+pub use outcome::{Accepted, Rejected};
+pub use reporting::{report, report_from};
 pub use running::run;

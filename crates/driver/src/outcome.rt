@@ -1,12 +1,18 @@
-// What came of an input.
+// What comes of an input.
 use frames::Fault;
 
-// It was too long, the piece of that number was refused, or so many sheets with so many frames were accepted.
-#[derive(Clone, Copy)]
-pub enum Outcome {
+// Every piece was read and formed: so many sheets, with so many frames.
+#[derive(Clone, Copy, PartialEq, Eq, Debug)]
+pub struct Accepted {
+    pub sheets: usize,
+    pub frames: usize,
+}
+
+// The input was too long, or the piece of that number was refused.
+#[derive(Clone, Copy, PartialEq, Eq, Debug)]
+pub enum Rejected {
     TooLong,
-    Refused(usize, Fault),
-    Accepted(usize, usize),
+    Refused { sheet: usize, fault: Fault },
 }
 
 pub mod printing;

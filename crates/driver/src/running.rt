@@ -1,15 +1,9 @@
 // The run over an input.
 ghost use Rattle.driver.specs.Reports.{Taken, Few, Says};
 
-use crate::outcome::Outcome;
-use crate::pieces::cut;
+use crate::outcome::{Accepted, Rejected};
 use frames::{Fault, Formed, Frame, form, read};
-
-// So many bytes may an input have.
-const LONGEST: usize = 65536;
-
-// So many frames there are to read a piece into: one more than a sheet may have.
-const AREA: usize = 257;
+use input::{FRAMES, LONGEST, Pieces};
 
 const BLANK: Frame = Frame {
     kind: 0,
@@ -23,32 +17,28 @@ fn take_piece(piece: &[u8]) -> Result<usize, Fault>
     ensures result { Taken piece.now result }
     ensures bound { Few result }
 {
-    let mut area = [BLANK; AREA];
+    let mut area = [BLANK; FRAMES];
     let mut formed = Formed::new();
     let n = read(piece, &mut area)?;
-    form(&area[0..n], &mut formed)?;
+    form(&area[..n], &mut formed)?;
     Ok(n)
 }
 
 // Takes the input piece by piece, up to the first that is refused.
-pub fn run(input: &[u8]) -> Outcome
+pub fn run(input: &[u8]) -> Result<Accepted, Rejected>
     ensures result { Says input.now result }
 {
     if input.len() > LONGEST {
-        return Outcome::TooLong;
+        return Err(Rejected::TooLong);
     }
-    let mut rest = input;
-    let mut sheets: usize = 0;
-    let mut frames: usize = 0;
-    while let Some((piece, more)) = cut(rest) {
-        match take_piece(piece) {
-            Err(e) => return Outcome::Refused(sheets, e),
-            Ok(n) => {
-                sheets += 1;
-                frames += n;
-                rest = more;
-            }
-        }
+    let mut sheets = 0;
+    let mut frames = 0;
+    for piece in Pieces::new(input) {
+        frames += take_piece(piece).map_err(|fault| Rejected::Refused {
+            sheet: sheets,
+            fault,
+        })?;
+        sheets += 1;
     }
-    Outcome::Accepted(sheets, frames)
+    Ok(Accepted { sheets, frames })
 }

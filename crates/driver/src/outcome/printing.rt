@@ -1,19 +1,37 @@
-// How an outcome is printed.
-use super::Outcome;
+// How it is printed what comes of an input.
+ghost use Rattle.std.specs.Prelude.{Some};
+ghost use Rattle.driver.specs.Texts.{accepted_text, rejected_text};
+
+use super::{Accepted, Rejected};
+use frames::Diagnostic;
+use std::error::Error;
 use std::fmt;
 
-impl fmt::Display for Outcome {
+impl fmt::Display for Accepted {
+    ghost output = { λ accepted. Some (accepted_text accepted) };
+
+    fn fmt<W: fmt::Write>(&self, f: &mut fmt::Formatter<W>) -> fmt::Result {
+        write!(f, "read {} sheets {} frames", self.sheets, self.frames)
+    }
+}
+
+impl fmt::Display for Rejected {
+    ghost output = { λ rejected. Some (rejected_text rejected) };
+
     fn fmt<W: fmt::Write>(&self, f: &mut fmt::Formatter<W>) -> fmt::Result {
         match self {
-            Outcome::TooLong => f.write_str("too long"),
-            Outcome::Refused(sheet, fault) => {
-                let d = fault.diagnostic();
-                let number = d.number;
-                let layer = d.layer;
-                let place = d.place;
+            Rejected::TooLong => f.write_str("too long"),
+            Rejected::Refused { sheet, fault } => {
+                let Diagnostic {
+                    number,
+                    layer,
+                    place,
+                    ..
+                } = fault.diagnostic();
                 write!(f, "refused {number} {layer} {sheet} {place}")
             }
-            Outcome::Accepted(sheets, frames) => write!(f, "read {sheets} sheets {frames} frames"),
         }
     }
 }
+
+impl Error for Rejected {}
