@@ -1,10 +1,10 @@
 -- A reader of a valid book is made, and answers every question on one of the 32 sheets.
-use Rattle.std.proofs.Common.{◌≡◌, ℕ, ◌<◌, ◌≤◌, Bool, true, eqb, ltb, List, ◌∷◌, ◌++◌, length, is_ok, IfOk, Some, None, Ok, Err, Option, Result, sym, refl, ap, ◌∙◌, subst, append_assoc, arith}
+use Rattle.std.proofs.Common.{◌≡◌, ℕ, ◌<◌, ◌≤◌, Bool, true, ltb, List, ◌∷◌, ◌++◌, length, is_ok, IfOk, Some, None, Ok, Err, Option, Result, sym, refl, ap, ap₂, ◌∙◌, subst, append_assoc, arith}
 use mathlib.Core.Path.{fun_ext}
-use Rattle.std.proofs.lemmas.Bool.{cond-false, le-ltb, eq-eqb, and_from}
+use Rattle.std.proofs.lemmas.Bool.{cond-false, le-ltb}
 use Rattle.syntax.specs.declared.frame.Frame.{Frame}
-use Rattle.history.specs.Calls.{refusal, Call, History, Answer.checked}
-use Rattle.history.specs.Plain.{plain, answer}
+use Rattle.history.specs.Calls.{refusal}
+use Rattle.history.specs.Plain.{plain}
 use Rattle.history.specs.Due.{CheckedValid.just_now}
 use Rattle.history.specs.Stands.{Stands}
 use Rattle.history.specs.Readable.{Typed}
@@ -20,8 +20,6 @@ use Rattle.book.specs.declared.book.Book.{Book}
 use Rattle.book.specs.declared.table.Table.{Table}
 use Rattle.book.specs.declared.reader.Reader.{Reader}
 use Rattle.book.specs.States.{state, valid_state}
-use Rattle.book_driver.specs.declared.outcome.Outcome.{Outcome}
-use Rattle.book_driver.specs.declared.outcome.Outcome.TheVariants.{Valid}
 use Rattle.book_driver.specs.Histories.{checking, all_posts}
 use Rattle.book_driver.specs.Reports.{Says, Leaves}
 use Rattle.book_driver.specs.Texts.{outcome_text, line, type_of, type_lines, TypesRead, Reported, ReportedOfSome}
@@ -58,25 +56,21 @@ Lent t f k (Ok q) = (q.table.now ≡ t) × (q.frames.now ≡ f) × (q.column.now
 Lent t f k (Err e) = Unit {0}
 
 -- a reader gives the types of the book that it was made of
-pub lent_types : (b : Book) (f : List Frame) (k : List ℕ) (r : Result Reader Fault) (q : Reader) → r ≡ Ok q → Lent b.table f k r → type_of (valid_state q.table.now q.frames.now q.column.now) ≡ type_of (state b f k)
-lent_types b f k r q i lent =
-    let parts = subst (Lent b.table f k) i lent in
-    ap (λ t. type_of (valid_state t q.frames.now q.column.now)) parts.0
-    ∙ ap (λ x. type_of (valid_state b.table x q.column.now)) parts.1
-    ∙ ap (λ x. type_of (valid_state b.table f x)) parts.2
+pub lent_types : (b : Book) (f : List Frame) (k : List ℕ) (r : Result Reader Fault) → Lent b.table f k r → IfOk r (λ q. type_of (valid_state q.table.now q.frames.now q.column.now) ≡ type_of (state b f k))
+lent_types b f k (Err e) lent = tt
+lent_types b f k (Ok q) lent =
+    ap (λ t. type_of (valid_state t q.frames.now q.column.now)) lent.0
+    ∙ ap (λ x. type_of (valid_state b.table x q.column.now)) lent.1
+    ∙ ap (λ x. type_of (valid_state b.table f x)) lent.2
     ∙ same_types b.table.records true b.valid f k
 
--- after a check that answered valid a reader over the book's own areas is made
-opens : (h : History cpp) (c : Call cpp) (n : ℕ) (book : State Frame) → Stands cpp (plain cpp (c ∷ h)) book → answer cpp h c ≡ checked n None → working_reading book (length book.frames) (length book.column) ≡ None
-opens h c n book s e =
-    let wide = eq-eqb (length book.frames) 8192 s.frames.wide in
-    let long = eq-eqb (length book.column) 8192 s.wide in
-    (law.lawful (c ∷ h) book s).readable.only_lengths (just_now e) (length book.frames) (length book.column) (and_from (eqb (length book.frames) 8192) (eqb (length book.column) 8192) wide long)
+-- whether a reader is made over areas that are the book's own
+pub own_reading : (book own : State Frame) (fl cl : ℕ) → book ≡ own → fl ≡ 8192 → cl ≡ 8192 → working_reading book fl cl ≡ working_reading own 8192 8192
+own_reading book own fl cl e wide long = ap (λ b. working_reading b fl cl) e ∙ ap₂ (working_reading own) wide long
 
--- so it is after a run that says valid
-pub valid_opens : (input : List ℕ) (fl cl a b n : ℕ) (o : Outcome) (book : State Frame) → o ≡ Valid n → Says input fl cl a b o → Leaves input a b o book → working_reading book (length book.frames) (length book.column) ≡ None
-valid_opens input fl cl a b n o book e said left =
-    opens (all_posts input) (checking a b) n book (subst (λ x. Leaves input a b x book) e left) (subst (Says input fl cl a b) e said).2
+-- after a run that says valid a reader over the book's own areas is made
+pub valid_opens : (input : List ℕ) (n : ℕ) (book : State Frame) → Says input 8192 8192 256 256 (Ok n) → Leaves input 256 256 (Ok n) book → working_reading book 8192 8192 ≡ None
+valid_opens input n book said left = (law.lawful (checking 256 256 ∷ all_posts input) book left).readable.only_lengths (just_now said.2) 8192 8192 refl
 
 -- and the types are then those that the law says
 types_read : (input : List ℕ) (a b : ℕ) (book : State Frame) → Stands cpp (plain cpp (checking a b ∷ all_posts input)) book → TypesRead input a b (type_of book)
@@ -85,17 +79,13 @@ types_read input a b book stands s p l =
     subst (Typed cpp h s p) (asked_type book s p l) ((law.lawful h book stands).readable.questions s p)
 
 -- so the line of the outcome and those of the types are the report
-pub valid_reported : (input : List ℕ) (fl cl a b n : ℕ) (o : Outcome) (book : State Frame) → o ≡ Valid n → Says input fl cl a b o → Leaves input a b o book → (start middle after : List ℕ) → middle ≡ start ++ line (outcome_text o) → after ≡ middle ++ type_lines (type_of book) 32 → (bs : List ℕ) × (after ≡ start ++ bs) × Reported input fl cl a b bs
-valid_reported input fl cl a b n o book e said left start middle after first rest =
+pub valid_reported : (input : List ℕ) (n : ℕ) (book : State Frame) → Says input 8192 8192 256 256 (Ok n) → Leaves input 256 256 (Ok n) book → (start middle after : List ℕ) → middle ≡ start ++ line (outcome_text (Ok n)) → after ≡ middle ++ type_lines (type_of book) 32 → (bs : List ℕ) × (after ≡ start ++ bs) × Reported input 8192 8192 256 256 bs
+valid_reported input n book said left start middle after first rest =
     let types = type_lines (type_of book) 32 in
-    let top = line (outcome_text (Valid n)) in (
+    let top = line (outcome_text (Ok n)) in (
       top ++ types,
-      rest ∙ ap (λ x. x ++ types) (first ∙ ap (λ x. start ++ line (outcome_text x)) e) ∙ append_assoc start top types,
-      record {
-        outcome = Valid n;
-        said = subst (Says input fl cl a b) e said;
-        printed = (type_of book, types_read input a b book (subst (λ x. Leaves input a b x book) e left), refl);
-      },
+      rest ∙ ap (λ x. x ++ types) first ∙ append_assoc start top types,
+      record { outcome = Ok n; said = said; printed = (type_of book, types_read input 256 256 book left, refl) },
     )
 
 -- the report on bytes of which there are not too many is one on some input

@@ -1,49 +1,46 @@
 -- The run, piece by piece: what each call on the book hands on to the next.
-use Rattle.std.proofs.Common.{◌≡◌, ℕ, ◌+◌, ◌<◌, true, cond, eqb, List, [], ◌∷◌, Some, None, Option, sym, refl, ap, ◌∙◌, subst, ap₂, arith}
-use Rattle.std.proofs.lemmas.Bool.{eq-eqb, and_from}
+use Rattle.std.proofs.Common.{◌≡◌, ℕ, ◌+◌, ◌<◌, true, cond, List, [], ◌∷◌, Some, None, Option, sym, refl, ap, ◌∙◌, subst, arith}
 use Rattle.syntax.specs.declared.frame.Frame.{Frame}
 use Rattle.history.specs.Words.{or_else}
 use Rattle.history.specs.Language.{Fault}
-use Rattle.history.specs.Calls.{sized, fresh_refusal, Call, Call.post, Call.check, History, Answer, Answer.refused, Answer.done}
+use Rattle.history.specs.Calls.{fresh_refusal, Call, Call.post, Call.check, History, Answer, Answer.refused, Answer.done}
 use Rattle.history.specs.Plain.{plain, answer}
 use Rattle.history.specs.Working.{State}
 use Rattle.history.specs.Stands.{Stands}
 use Rattle.history.specs.Promise.{with_areas, fitted, Keeps, Promise}
-use Rattle.history.proofs.Fresh.{fresh_accepted}
 use Rattle.history.proofs.Accepts.{accepts}
 use Rattle.cpp.specs.Cpp.{cpp}
-use Rattle.book_driver.specs.Pieces.{pieces}
+use Rattle.input.specs.Pieces.{pieces}
+use Rattle.book_driver.specs.Workspaces.{Goes}
 use Rattle.book_driver.specs.Histories.{fault_told, posted, checking, posts, post_fault, all_posts, posting_fault, first_fault}
 
 -- ## one call
 
--- a call over the book's own areas keeps what the law says of it
-keeps : (h : History cpp) (book book' : State Frame) (c : Call cpp) (r : Answer cpp) → fitted cpp c ≡ true → Promise cpp book c r book' → Stands cpp (plain cpp h) book → Keeps cpp h c r book'
-keeps h book book' c r e p s =
-    subst (Keeps cpp h c r) (ap (λ b. with_areas book' (cond b book'.frames book.frames) (cond b book'.column book.column)) e)
-    (p h book.frames book.column s (λ _. (refl, refl)))
+-- a call over areas that are the book's own keeps what the law says of it
+pub own_call : (c : ℕ → ℕ → Call cpp) (book own book' own' : State Frame) (r : Answer cpp) (fl cl : ℕ) → book ≡ own → book' ≡ own' → fl ≡ 8192 → cl ≡ 8192 → fitted cpp (c 8192 8192) ≡ true → Promise cpp book (c fl cl) r book' → Goes own (c 8192 8192) r own'
+own_call c book own book' own' r fl cl before after wide long fits p =
+    let at = subst (λ x. Promise cpp x (c fl cl) r book') before p in
+    let to = subst (λ x. Promise cpp own (c fl cl) r x) after at in
+    let sized = subst (λ x. Promise cpp own (c x cl) r own') wide to in
+    let q = subst (λ x. Promise cpp own (c 8192 x) r own') long sized in
+    λ h s. subst (Keeps cpp h (c 8192 8192) r) (ap (λ b. with_areas own' (cond b own'.frames own.frames) (cond b own'.column own.column)) fits)
+    (q h own.frames own.column s (λ _. (refl, refl)))
 
--- two lengths of 8,192 pass the test
-both_sized : (fl cl : ℕ) → fl ≡ 8192 → cl ≡ 8192 → sized fl cl ≡ true
-both_sized fl cl a b = and_from (eqb fl 8192) (eqb cl 8192) (eq-eqb fl 8192 a) (eq-eqb cl 8192 b)
+-- so does the post of a piece
+pub own_post : (k : ℕ) (piece : List ℕ) (book own book' own' : State Frame) (r : Answer cpp) (fl cl : ℕ) → book ≡ own → book' ≡ own' → fl ≡ 8192 → cl ≡ 8192 → Promise cpp book (post k piece 257 fl cl) r book' → Goes own (posted k piece) r own'
+unfolding posted
+own_post k piece book own book' own' r fl cl at to wide long p = own_call (post k piece 257) book own book' own' r fl cl at to wide long refl p
 
-module _ (h : History cpp) (book book' : State Frame) (r : Answer cpp) (fl cl : ℕ) (wide : fl ≡ 8192) (long : cl ≡ 8192) (stands : Stands cpp (plain cpp h) book) where
-  -- so does the post of a piece
-  pub post_keeps : (k : ℕ) (piece : List ℕ) → Promise cpp book (post k piece 257 fl cl) r book' → Keeps cpp h (posted k piece) r book'
-  unfolding posted
-  post_keeps k piece p =
-      let same = ap₂ (post k piece 257) wide long in
-      subst (λ c. Keeps cpp h c r book') same (keeps h book book' (post k piece 257 fl cl) r (both_sized fl cl wide long) p stands)
-
-  -- and the check
-  check_keeps : (a b : ℕ) → Promise cpp book (check fl cl a b) r book' → Keeps cpp h (checking a b) r book'
-  unfolding checking
-  check_keeps a b p =
-      let same = ap₂ (λ x y. check x y a b) wide long in
-      subst (λ c. Keeps cpp h c r book') same (keeps h book book' (check fl cl a b) r (both_sized fl cl wide long) p stands)
+-- and the check
+pub own_check : (book own book' own' : State Frame) (r : Answer cpp) (fl cl a b : ℕ) → book ≡ own → book' ≡ own' → fl ≡ 8192 → cl ≡ 8192 → a ≡ 256 → b ≡ 256 → Promise cpp book (check fl cl a b) r book' → Goes own (checking 256 256) r own'
+unfolding checking
+own_check book own book' own' r fl cl a b at to wide long heads variables p =
+    let one = subst (λ x. Promise cpp book (check fl cl x b) r book') heads p in
+    let both = subst (λ x. Promise cpp book (check fl cl 256 x) r book') variables one in
+    own_call (λ x y. check x y 256 256) book own book' own' r fl cl at to wide long refl both
 
 -- an accepted post names one of the 32 sheets
-pub post_sheet : (h : History cpp) (k : ℕ) (piece : List ℕ) → done ≡ answer cpp h (posted k piece) → k < 32
+post_sheet : (h : History cpp) (k : ℕ) (piece : List ℕ) → done ≡ answer cpp h (posted k piece) → k < 32
 unfolding posted
 post_sheet h k piece e =
     let a = accepts cpp h in
@@ -53,58 +50,57 @@ post_sheet h k piece e =
 -- ## the posts
 
 -- the pieces before `rest` were posted and accepted, k of them, and the book stands as those posts say
-pub record Onward (input rest : List ℕ) (k : ℕ) (book : State Frame) : Type 0 where
+pub record Onward (input : List ℕ) (rest : List (List ℕ)) (k : ℕ) (book : State Frame) : Type 0 where
   pub past : History cpp
   pub stands : Stands cpp (plain cpp past) book
-  pub all : posts k past (pieces rest) ≡ all_posts input
-  pub first : post_fault k past (pieces rest) ≡ post_fault 0 [] (pieces input)
+  pub all : posts k past rest ≡ all_posts input
+  pub first : post_fault k past rest ≡ post_fault 0 [] (pieces input)
 
 -- a fresh book begins
-pub begins : (input : List ℕ) (book : State Frame) → Stands cpp (plain cpp []) book → Onward input input 0 book
+pub begins : (input : List ℕ) (book : State Frame) → Stands cpp (plain cpp []) book → Onward input (pieces input) 0 book
 begins input book s = record { past = []; stands = s; all = refl; first = refl }
 
-module _ (input rest : List ℕ) (k : ℕ) (book : State Frame) (on : Onward input rest k book) where
+module _ (input : List ℕ) (rest : List (List ℕ)) (k : ℕ) (book : State Frame) (on : Onward input rest k book) where
   -- with no piece left all were accepted
   pub ends : rest ≡ [] → (post_fault 0 [] (pieces input) ≡ None) × Stands cpp (plain cpp (all_posts input)) book
-  unfolding pieces
   ends e = (
-    sym on.first ∙ ap (λ x. post_fault k on.past (pieces x)) e,
-    subst (λ h. Stands cpp (plain cpp h) book) (sym (ap (λ x. posts k on.past (pieces x)) e) ∙ on.all) on.stands,
+    sym on.first ∙ ap (λ x. post_fault k on.past x) e,
+    subst (λ h. Stands cpp (plain cpp h) book) (sym (ap (λ x. posts k on.past x) e) ∙ on.all) on.stands,
   )
 
-  module _ (piece more : List ℕ) (next : pieces rest ≡ piece ∷ pieces more) (book' : State Frame) where
-    -- a refused post tells the first fault
-    pub stops : (f : Fault) → Keeps cpp on.past (posted k piece) (refused f) book' → post_fault 0 [] (pieces input) ≡ Some f
-    stops f kept =
-        sym on.first ∙ ap (post_fault k on.past) next
-        ∙ ap (λ r. or_else (fault_told r) (post_fault (k + 1) (posted k piece ∷ on.past) (pieces more))) (sym kept.answered)
+  module _ (piece : List ℕ) (more : List (List ℕ)) (next : rest ≡ piece ∷ more) (t : ℕ) (same : t ≡ k) (book' : State Frame) where
+    kept : (r : Answer cpp) → Goes book (posted t piece) r book' → Keeps cpp on.past (posted k piece) r book'
+    kept r goes = subst (λ n. Keeps cpp on.past (posted n piece) r book') same (goes on.past on.stands)
 
-    -- an accepted one goes on
-    pub goes_on : Keeps cpp on.past (posted k piece) done book' → Onward input more (k + 1) book'
-    goes_on kept =
-        record {
+    -- a refused post tells the first fault
+    pub stops : (f : Fault) → Goes book (posted t piece) (refused f) book' → post_fault 0 [] (pieces input) ≡ Some f
+    stops f goes =
+        sym on.first ∙ ap (post_fault k on.past) next
+        ∙ ap (λ r. or_else (fault_told r) (post_fault (k + 1) (posted k piece ∷ on.past) more)) (sym (kept (refused f) goes).answered)
+
+    -- an accepted one names one of the 32 sheets
+    pub on_sheet : Goes book (posted t piece) done book' → k < 32
+    on_sheet goes = post_sheet on.past k piece (kept done goes).answered
+
+    -- and goes on
+    pub goes_on : (k' : ℕ) → k' ≡ t + 1 → Goes book (posted t piece) done book' → Onward input more k' book'
+    goes_on k' up goes =
+        let one : Onward input more (k + 1) book' = record {
           past = posted k piece ∷ on.past;
-          stands = kept.goes_on;
+          stands = (kept done goes).goes_on;
           all = ap (posts k on.past) (sym next) ∙ on.all;
-          first = ap (λ r. or_else (fault_told r) (post_fault (k + 1) (posted k piece ∷ on.past) (pieces more))) kept.answered
+          first = ap (λ r. or_else (fault_told r) (post_fault (k + 1) (posted k piece ∷ on.past) more)) (kept done goes).answered
               ∙ ap (post_fault k on.past) (sym next)
               ∙ on.first;
-        }
+        } in
+        subst (λ n. Onward input more n book') (ap (λ n. n + 1) (sym same) ∙ sym up) one
 
 -- ## the first fault
 
--- neither of two is there, so the first is not
-first_absent : (x y : Option Fault) → or_else x y ≡ None → x ≡ None
-first_absent (Some f) y e = e
-first_absent None y e = refl
-
--- after an accepted fresh it is that of the posts
-pub posting_told : (input : List ℕ) (fl cl : ℕ) (o : Option Fault) → None ≡ fresh_refusal fl cl → post_fault 0 [] (pieces input) ≡ o → o ≡ posting_fault input fl cl
-posting_told input fl cl o e i = sym i ∙ ap (λ x. or_else x (post_fault 0 [] (pieces input))) e
-
--- with none up to the last post both areas have 8,192 places
-posting_sized : (input : List ℕ) (fl cl : ℕ) → None ≡ posting_fault input fl cl → (fl ≡ 8192) × (cl ≡ 8192)
-posting_sized input fl cl e = (fresh_accepted fl cl).0 (first_absent (fresh_refusal fl cl) (post_fault 0 [] (pieces input)) (sym e))
+-- fresh over areas of 8,192 places is accepted, so the first fault is that of the posts
+pub posting_told : (input : List ℕ) (o : Option Fault) → post_fault 0 [] (pieces input) ≡ o → o ≡ posting_fault input 8192 8192
+unfolding fresh_refusal
+posting_told input o e = sym e
 
 -- a fault is there, so it is not absent
 pub not_absent : (f : Fault) → Some f ≡ None → ⊥
@@ -112,19 +108,17 @@ not_absent f e = let z : ◌≡◌ {A = ℕ} 0 1 = cc in omega arith
 
 -- ## the check
 
--- the answer of the check after the posts, and the book that it leaves
-pub record AfterCheck (input : List ℕ) (fl cl a b : ℕ) (r : Answer cpp) (book' : State Frame) : Type 0 where
-  pub first : first_fault input fl cl a b ≡ fault_told r
-  pub answered : answer cpp (all_posts input) (checking a b) ≡ r
-  pub stands : Stands cpp (plain cpp (checking a b ∷ all_posts input)) book'
+-- the answer of the check after accepted posts, and the book that it leaves
+pub record AfterCheck (input : List ℕ) (r : Answer cpp) (book' : State Frame) : Type 0 where
+  pub first : first_fault input 8192 8192 256 256 ≡ fault_told r
+  pub answered : answer cpp (all_posts input) (checking 256 256) ≡ r
+  pub stands : Stands cpp (plain cpp (checking 256 256 ∷ all_posts input)) book'
 
--- a check that keeps its promise, over areas as long as those that fresh took
-pub after_check : (input : List ℕ) (fl cl fl' cl' a b : ℕ) (book book' : State Frame) (r : Answer cpp) → fl' ≡ fl → cl' ≡ cl → None ≡ posting_fault input fl cl → Stands cpp (plain cpp (all_posts input)) book → Promise cpp book (check fl' cl' a b) r book' → AfterCheck input fl cl a b r book'
-after_check input fl cl fl' cl' a b book book' r f c none stands p =
-    let size = posting_sized input fl cl none in
-    let kept = check_keeps (all_posts input) book book' r fl' cl' (f ∙ size.0) (c ∙ size.1) stands a b p in
+pub after_check : (input : List ℕ) (book book' : State Frame) (r : Answer cpp) → None ≡ posting_fault input 8192 8192 → Stands cpp (plain cpp (all_posts input)) book → Goes book (checking 256 256) r book' → AfterCheck input r book'
+after_check input book book' r none stands goes =
+    let kept = goes (all_posts input) stands in
     record {
-      first = ap (λ x. or_else x (fault_told (answer cpp (all_posts input) (checking a b)))) (sym none) ∙ ap fault_told (sym kept.answered);
+      first = ap (λ x. or_else x (fault_told (answer cpp (all_posts input) (checking 256 256)))) (sym none) ∙ ap fault_told (sym kept.answered);
       answered = sym kept.answered;
       stands = kept.goes_on;
     }

@@ -5,7 +5,7 @@ use Rattle.history.specs.Language.{Fault}
 use Rattle.history.specs.Calls.{fresh_refusal, Call, Call.post, Call.check, History, Answer, Answer.refused, Answer.done, Answer.checked}
 use Rattle.history.specs.Plain.{answer}
 use Rattle.cpp.specs.Cpp.{cpp}
-use Rattle.book_driver.specs.Pieces.{pieces}
+use Rattle.input.specs.Pieces.{pieces}
 
 -- the fault that an answer tells, if it tells one: a refusal, or of a check the fault of the lowest faulty sheet
 abbrev pub fault_told : Answer cpp → Option Fault

@@ -1,4 +1,4 @@
-pub mod Pieces
 pub mod Histories
 pub mod Reports
 pub mod Texts
+pub mod Workspaces

@@ -1,13 +1,13 @@
 -- What is printed: the line of the outcome, and of a valid book a line for each expression.
-use Rattle.std.specs.Prelude.{◌≡◌, ℕ, zero, suc, ◌<◌, ◌≤◌, List, [], ◌∷◌, ◌++◌, length, Some, None, Ok, codes, decimal, Option}
+use Rattle.std.specs.Prelude.{◌≡◌, ℕ, zero, suc, ◌<◌, ◌≤◌, List, [], ◌∷◌, ◌++◌, length, Some, None, Ok, codes, decimal, Err, Option, Result}
 use Rattle.syntax.specs.declared.frame.Frame.{Frame}
 use Rattle.history.specs.Working.{State, record_at, type_asked}
 use Rattle.history.specs.Readable.{Typed}
 use Rattle.cpp.specs.Cpp.{cpp}
 use Rattle.records.specs.declared.fault.Fault.{Fault}
 use Rattle.records.specs.Faults.{number, layer, sheet, place}
-use Rattle.book_driver.specs.declared.outcome.Outcome.{Outcome}
-use Rattle.book_driver.specs.declared.outcome.Outcome.TheVariants.{TooLong, Refused, Valid}
+use Rattle.book_driver.specs.declared.rejected.Rejected.{Rejected}
+use Rattle.book_driver.specs.declared.rejected.Rejected.TheVariants.{TooLong, Refused}
 use Rattle.book_driver.specs.Histories.{checking, all_posts}
 use Rattle.book_driver.specs.Reports.{Says}
 
@@ -16,11 +16,15 @@ abbrev pub fault_text : Fault → List ℕ
 fault_text e =
     codes "refused " ++ (decimal (number e) ++ (codes " " ++ (decimal (layer e) ++ (codes " " ++ (decimal (sheet e) ++ (codes " " ++ decimal (place e)))))))
 
+-- why there is no valid book
+abbrev pub rejected_text : Rejected → List ℕ
+rejected_text TooLong = codes "too long"
+rejected_text (Refused e) = fault_text e
+
 -- what came of an input
-abbrev pub outcome_text : Outcome → List ℕ
-outcome_text TooLong = codes "too long"
-outcome_text (Refused e) = fault_text e
-outcome_text (Valid n) = codes "valid " ++ decimal n
+abbrev pub outcome_text : Result ℕ Rejected → List ℕ
+outcome_text (Ok n) = codes "valid " ++ decimal n
+outcome_text (Err r) = rejected_text r
 
 -- a text as a line of its own
 abbrev pub line : List ℕ → List ℕ
@@ -50,15 +54,15 @@ abbrev pub TypesRead : List ℕ → ℕ → ℕ → (ℕ → ℕ → Option ℕ)
 TypesRead input a b types = (s p : ℕ) → s < 32 → Typed cpp (checking a b ∷ all_posts input) s p (Ok (types s p))
 
 -- the text after this outcome
-abbrev pub Prints : List ℕ → ℕ → ℕ → Outcome → List ℕ → Type 0
-Prints input a b TooLong bs = bs ≡ line (outcome_text TooLong)
-Prints input a b (Refused e) bs = bs ≡ line (outcome_text (Refused e))
-Prints input a b (Valid n) bs =
-    (types : ℕ → ℕ → Option ℕ) × TypesRead input a b types × (bs ≡ line (outcome_text (Valid n)) ++ type_lines types 32)
+abbrev pub Prints : List ℕ → ℕ → ℕ → Result ℕ Rejected → List ℕ → Type 0
+Prints input a b (Err TooLong) bs = bs ≡ line (outcome_text (Err TooLong))
+Prints input a b (Err (Refused e)) bs = bs ≡ line (outcome_text (Err (Refused e)))
+Prints input a b (Ok n) bs =
+    (types : ℕ → ℕ → Option ℕ) × TypesRead input a b types × (bs ≡ line (outcome_text (Ok n)) ++ type_lines types 32)
 
 -- the text that is printed of an input, over areas of these lengths and stores of these capacities
 pub record Reported (input : List ℕ) (fl cl a b : ℕ) (bs : List ℕ) : Type 0 where
-  pub outcome : Outcome
+  pub outcome : Result ℕ Rejected
   pub said : Says input fl cl a b outcome
   pub printed : Prints input a b outcome bs
 

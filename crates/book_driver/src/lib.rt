@@ -2,12 +2,9 @@
 
 #![tactic(auto)]
 
-mod outcome;
-mod pieces;
-mod reading;
+mod rejected;
 mod reporting;
-mod running;
+mod workspace;
 
-pub use pieces::cut;
-pub use reading::report_from;
-pub use reporting::report;
+pub use input::cut;
+pub use reporting::{report, report_from};

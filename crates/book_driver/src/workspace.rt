@@ -1,0 +1,40 @@
+// A book with the memory that its calls are lent.
+ghost use Rattle.std.specs.Prelude.{◌≡◌, vec_len};
+
+use book::Book;
+use std::alloc::{AllocError, Global};
+use syntax::Frame;
+
+// So many places has an area.
+const AREA: usize = 8192;
+
+pub(crate) const BLANK: Frame = Frame {
+    kind: 0,
+    t: 0,
+    name: 0,
+    load: 0,
+};
+
+// A book and its areas of frames and of types.
+#[derive(Drop)]
+pub(crate) struct Workspace {
+    book: Book,
+    frames: Vec<Frame>,
+    column: Vec<u8>,
+    ghost wide: { vec_len frames ≡ 8192 },
+    ghost long: { vec_len column ≡ 8192 },
+}
+
+impl Workspace {
+    // A new book over areas of its own.
+    pub(crate) fn new(heap: Global) -> Result<Self, AllocError> {
+        Ok(Workspace {
+            book: Book::new(),
+            frames: vec![in heap; BLANK; AREA]?,
+            column: vec![in heap; 0u8; AREA]?,
+        })
+    }
+}
+
+mod running;
+mod writing;
