@@ -8,13 +8,6 @@ use syntax::Frame;
 // So many places has an area.
 const AREA: usize = 8192;
 
-pub(crate) const BLANK: Frame = Frame {
-    kind: 0,
-    t: 0,
-    name: 0,
-    load: 0,
-};
-
 // A book and its areas of frames and of types.
 #[derive(Drop)]
 pub(crate) struct Workspace {
@@ -30,7 +23,7 @@ impl Workspace {
     pub(crate) fn new(heap: Global) -> Result<Self, AllocError> {
         Ok(Workspace {
             book: Book::new(),
-            frames: vec![in heap; BLANK; AREA]?,
+            frames: vec![in heap; Frame::BLANK; AREA]?,
             column: vec![in heap; 0u8; AREA]?,
         })
     }

@@ -5,19 +5,12 @@ use crate::outcome::{Accepted, Rejected};
 use frames::{Fault, Formed, Frame, form, read};
 use input::{FRAMES, LONGEST, Pieces};
 
-const BLANK: Frame = Frame {
-    kind: 0,
-    t: 0,
-    name: 0,
-    load: 0,
-};
-
 // Reads a piece into frames of its own and forms them, and answers their count.
 fn take_piece(piece: &[u8]) -> Result<usize, Fault>
     ensures result { Taken piece.now result }
     ensures bound { Few result }
 {
-    let mut area = [BLANK; FRAMES];
+    let mut area = [Frame::BLANK; FRAMES];
     let mut formed = Formed::new();
     let n = read(piece, &mut area)?;
     form(&area[..n], &mut formed)?;

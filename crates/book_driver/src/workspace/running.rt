@@ -8,13 +8,14 @@ ghost use Rattle.book_driver.specs.Histories.{posted, checking, all_posts, posti
 ghost use Rattle.book_driver.specs.Reports.{Says, Leaves};
 ghost use Rattle.book_driver.specs.Workspaces.{book_of, Goes};
 
-use super::{BLANK, Workspace};
+use super::Workspace;
 use crate::rejected::Rejected;
 use input::{FRAMES, LONGEST, Pieces};
 use levels::chains::Chains;
 use levels::entry::Entry;
 use levels::pile::Pile;
 use records::{Checked, Fault};
+use syntax::Frame;
 
 // So many entries has a store.
 const ENTRIES: usize = 256;
@@ -23,14 +24,14 @@ const ENTRIES: usize = 256;
 const NO_HEAD: Entry<u64> = Entry {
     name: 0,
     value: 0,
-    next: 0,
+    next: None,
 };
 
 // An entry of the store of variables before any is declared.
 const NO_VARIABLE: Entry<u8> = Entry {
     name: 0,
     value: 0,
-    next: 0,
+    next: None,
 };
 
 impl Workspace {
@@ -41,7 +42,7 @@ impl Workspace {
         self.book.post(
             piece,
             sheet,
-            &mut [BLANK; FRAMES],
+            &mut [Frame::BLANK; FRAMES],
             &mut self.frames,
             &mut self.column,
         )

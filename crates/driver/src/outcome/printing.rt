@@ -27,7 +27,7 @@ impl fmt::Display for Rejected {
                     layer,
                     place,
                     ..
-                } = fault.diagnostic();
+                } = Diagnostic::from(*fault);
                 write!(f, "refused {number} {layer} {sheet} {place}")
             }
         }
