@@ -2,8 +2,6 @@
 ghost use Rattle.syntax.specs.Examples.{Tried};
 
 // The examples are judged as said.
-pub fn examples_agree() -> u8
+pub fn examples_agree()
     ensures law { Tried }
-{
-    0
-}
+{}

@@ -15,6 +15,7 @@ const LONGEST: usize = 256;
 
 impl Formed {
     // At first HEAD of void 0, and END.
+    #[tactic(auto, unfolding(syntax::specs::Form::step, syntax::specs::Writing::written))]
     pub fn new() -> Self
         ensures result { Filled (frame 0x01 5 0 0 ∷ (frame 0x03 0 0 0 ∷ [])) result }
         ensures tree { written nothing_done ≡ frames_of result }

@@ -47,10 +47,10 @@ impl Machine {
     fn begin(&mut self, thing: Unfinished) -> Result<(Stage, usize), Fault>
         ensures { Allows (begin self.old.place thing self.old.things) self.old self.new result }
     {
-        match self.things.begin(thing) {
-            Ok(()) => Ok((Stage::Body, 0)),
-            Err(_) => Err(Fault::TooDeep(self.place)),
-        }
+        self.things
+            .begin(thing)
+            .map_err(|_| Fault::TooDeep(self.place))?;
+        Ok((Stage::Body, 0))
     }
 
     // What comes next after a frame of that role and load, and how many operands are ready then.
@@ -96,9 +96,7 @@ impl Machine {
         if self.stage == Stage::Ended {
             return Err(Fault::AfterEnd(self.place));
         }
-        let Some(row) = row_of(f.kind) else {
-            return Err(Fault::UnknownKind(self.place));
-        };
+        let row = row_of(f.kind).ok_or(Fault::UnknownKind(self.place))?;
         if !row.suits(f) {
             return Err(Fault::BadField(self.place));
         }
