@@ -9,6 +9,7 @@ use Rattle.syntax.specs.declared.fault.Fault.{Fault}
 use Rattle.codec.specs.Text.{digit, hexes, line_of, text_of, Fit}
 use Rattle.syntax.specs.declared.fault.Fault.TheVariants.{BadLine, FramesFull, TextShort, TooLong, UnknownKind, BadField, NotAllowed, TooDeep, NoEnd, AfterEnd}
 use Rattle.syntax.specs.Faults.{number, place}
+use Rattle.syntax.proofs.Faults.{same_fault}
 use Rattle.codec.specs.Codec.{NoLine, Begun, Stops, Reads, Only, Writes, Written, Inverse}
 use Rattle.codec.proofs.Lines.{apart, length_text, length_line}
 
@@ -28,15 +29,9 @@ hexes_same (suc w) a b h k e =
     let high : a / 16 ≡ b / 16 = hexes_same w (a / 16) (b / 16) (div_below a 16 (16 ^ w) (omega arith) ha) (div_below b 16 (16 ^ w) (omega arith) hb) s.0 in
     omega (arith, div-add-mod' a 16, div-add-mod' b 16)
 
-mk : ℕ → ℕ → ℕ → ℕ → Frame
-mk a b c d = record { kind = a; t = b; name = c; load = d }
-
 -- a frame is its fields
 fields_same : (f g : Frame) → f.kind ≡ g.kind → f.t ≡ g.t → f.name ≡ g.name → f.load ≡ g.load → f ≡ g
-unfolding mk
-fields_same f g a b c d =
-    let ef : f ≡ mk f.kind f.t f.name f.load = refl in
-    ef ∙ ap (λ n. mk n f.t f.name f.load) a ∙ ap (λ n. mk g.kind n f.name f.load) b ∙ ap (λ n. mk g.kind g.t n f.load) c ∙ ap (mk g.kind g.t g.name) d
+fields_same f g a b c d = λ i. record { kind = a i; t = b i; name = c i; load = d i }
 
 line_same : (f g : Frame) (s t : List ℕ) → Fit f → Fit g → line_of f ++ s ≡ line_of g ++ t → f ≡ g
 line_same f g s t hf hg e =
@@ -137,36 +132,12 @@ ending text before after (Ok m) h = (m, ([], record { begun = h; over = inl refl
 ending text before after (Err e) (one, none, (rest, (some, b, why))) =
     (place e, (rest, record { begun = b; over = inr (elim why [ inl full ↦ inl full.1 | inr bad ↦ inr bad.2 ]); fate = (refl, some, why) }))
 
--- a fault by its number and place
-full_is : (e : Fault) → number e ≡ 12 → e ≡ FramesFull (place e)
-full_is (BadLine k) h = absurd (omega arith)
-full_is (FramesFull k) h = refl
-full_is TextShort h = absurd (omega arith)
-full_is TooLong h = absurd (omega arith)
-full_is (UnknownKind k) h = absurd (omega arith)
-full_is (BadField k) h = absurd (omega arith)
-full_is (NotAllowed k) h = absurd (omega arith)
-full_is (TooDeep k) h = absurd (omega arith)
-full_is (NoEnd k) h = absurd (omega arith)
-full_is (AfterEnd k) h = absurd (omega arith)
-
-bad_is : (e : Fault) → number e ≡ 11 → e ≡ BadLine (place e)
-bad_is (BadLine k) h = refl
-bad_is (FramesFull k) h = absurd (omega arith)
-bad_is TextShort h = absurd (omega arith)
-bad_is TooLong h = absurd (omega arith)
-bad_is (UnknownKind k) h = absurd (omega arith)
-bad_is (BadField k) h = absurd (omega arith)
-bad_is (NotAllowed k) h = absurd (omega arith)
-bad_is (TooDeep k) h = absurd (omega arith)
-bad_is (NoEnd k) h = absurd (omega arith)
-bad_is (AfterEnd k) h = absurd (omega arith)
-
-same_fault : (before : List Frame) (e e' : Fault) (rest rest' : List ℕ) → place e ≡ place e' → Stops before e rest → Stops before e' rest' → e ≡ e'
-same_fault before e e' rest rest' p (inl full) (inl full') = full_is e full.0 ∙ ap FramesFull p ∙ sym (full_is e' full'.0)
-same_fault before e e' rest rest' p (inl full) (inr bad') = absurd (omega (arith, full.1, bad'.1))
-same_fault before e e' rest rest' p (inr bad) (inl full') = absurd (omega (arith, bad.1, full'.1))
-same_fault before e e' rest rest' p (inr bad) (inr bad') = bad_is e bad.0 ∙ ap BadLine p ∙ sym (bad_is e' bad'.0)
+-- two readings that stop at one place do so for one reason
+stops_same : (before : List Frame) (e e' : Fault) (rest rest' : List ℕ) → place e ≡ place e' → Stops before e rest → Stops before e' rest' → e ≡ e'
+stops_same before e e' rest rest' p (inl full) (inl full') = same_fault e e' (full.0 ∙ sym full'.0) p
+stops_same before e e' rest rest' p (inl full) (inr bad') = absurd (omega (arith, full.1, bad'.1))
+stops_same before e e' rest rest' p (inr bad) (inl full') = absurd (omega (arith, bad.1, full'.1))
+stops_same before e e' rest rest' p (inr bad) (inr bad') = same_fault e e' (bad.0 ∙ sym bad'.0) p
 
 same_answer : (text : List ℕ) (before after after' : List Frame) (r r' : Result ℕ Fault) (n n' : ℕ) (rest rest' : List ℕ) →
     Ending text before after r n rest → Ending text before after' r' n' rest' → Same n n' after after' rest rest' → r ≡ r'
@@ -174,7 +145,7 @@ same_answer text before after after' (Ok m) (Ok m') n n' rest rest' a b s = ap O
 same_answer text before after after' (Ok m) (Err e) n n' rest rest' a b s = absurd (b.fate.1 (sym s.rests ∙ a.fate.1))
 same_answer text before after after' (Err e) (Ok m) n n' rest rest' a b s = absurd (a.fate.1 (s.rests ∙ b.fate.1))
 same_answer text before after after' (Err e) (Err e') n n' rest rest' a b s =
-    ap Err (same_fault before e e' rest rest' (a.fate.0 ∙ s.count ∙ sym b.fate.0) a.fate.2 b.fate.2)
+    ap Err (stops_same before e e' rest rest' (a.fate.0 ∙ s.count ∙ sym b.fate.0) a.fate.2 b.fate.2)
 
 -- reading has one answer and leaves one content
 pub reads_once : (text : List ℕ) (before after : List Frame) (r : Result ℕ Fault) → Reads text before after r → Only text before after r

@@ -18,3 +18,4 @@ pub mod Stops
 pub mod Types
 pub mod Lengths
 pub mod Heads
+pub mod Faults
