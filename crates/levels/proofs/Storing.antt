@@ -1,16 +1,17 @@
 -- What the calls on a level table do to the store that its layout and the entries make.
-use Rattle.std.proofs.Common.{◌≡◌, ℕ, ◌<◌, ◌≤◌, min, Bool, true, cond, ltb, List, [], ◌∷◌, map, reverse, length, take, Some, None, Option, sym, refl, ap, ◌∙◌, ⊎_elim, arith, le-ltb}
+use Rattle.std.proofs.Common.{◌≡◌, ℕ, ◌<◌, ◌≤◌, min, Bool, true, cond, ltb, List, [], ◌∷◌, map, reverse, length, take, Some, None, Option, Result, sym, refl, ap, ◌∙◌, ⊎_elim, arith, le-ltb}
 use Rattle.std.proofs.lemmas.Bool.{cases_lt}
 use Rattle.std.proofs.lemmas.List.{length-map, length-take, take-map}
 use Rattle.levels.specs.declared.entry.Entry.{Entry}
+use Rattle.levels.specs.declared.refusal.Refusal.{Refusal}
 use Rattle.levels.specs.declared.refusal.Refusal.TheVariants.{TooDeep, Repeated, Full}
-use Rattle.levels.specs.Refusals.{too_deep, none_to_leave, no_place, unless}
-use Rattle.levels.specs.Store.{Store, enter_refused, leave_refused, declare_refused, entered, left, with_levels, looked, stands, find}
+use Rattle.levels.specs.Refusals.{too_deep, no_place, unless, answer}
+use Rattle.levels.specs.Store.{Store, enter_refused, declare_refused, entered, with_levels, looked, stands, find}
 use Rattle.levels.specs.Search.{newest_of}
 use Rattle.levels.specs.Entries.{pair, names, value_at}
 use Rattle.levels.specs.Starts.{ordered}
 use Rattle.levels.specs.Layout.{Layout, no_levels, opened, closed, without_top, top_of, on_top, cut, store_of}
-use Rattle.levels.proofs.Refusing.{unless_through, unless_same}
+use Rattle.levels.proofs.Refusing.{unless_through}
 use Rattle.levels.proofs.Starting.{ordered_top}
 use Rattle.levels.proofs.Reading.{value_nth_take}
 use Rattle.levels.proofs.Searching.{newest_low}
@@ -34,10 +35,10 @@ module _ {V : Type 0} (y : Layout) (es : List (Entry V)) where
   abbrev s : Store V
   s = store_of y es
 
-  pub enter_refused_by : too_deep y.starts ≡ enter_refused s
+  enter_refused_by : too_deep y.starts ≡ enter_refused s
   enter_refused_by = sym (ap (λ n. cond (ltb n 33) None (Some TooDeep)) (length_cut y.starts y.count (map pair es)))
 
-  pub entered_by : (y' : Layout) → y' ≡ opened y → store_of y' es ≡ entered s
+  entered_by : (y' : Layout) → y' ≡ opened y → store_of y' es ≡ entered s
   entered_by y' e =
       ap (λ z. store_of z es) e
       ∙ unless_through (λ z. store_of z es) (too_deep y.starts) (record { starts = y.count ∷ y.starts; count = y.count }) y
@@ -53,7 +54,7 @@ room_by n l =
     (cases_lt n l)
 
 module _ {V : Type 0} (y : Layout) (es : List (Entry V)) (ok : ordered y.starts y.count ≡ true) (k : ℕ) where
-  pub looked_by : value_at es (newest_of (names (take y.count es)) k) ≡ looked (store_of y es).levels k
+  looked_by : value_at es (newest_of (names (take y.count es)) k) ≡ looked (store_of y es).levels k
   looked_by =
       sym (looked_cut y.starts y.count (map pair es) k ok
       ∙ ap (λ l. find (reverse l) k) (take-map pair y.count es)
@@ -63,9 +64,6 @@ module _ {V : Type 0} (y : Layout) (es : List (Entry V)) (ok : ordered y.starts 
       part : (o : Option ℕ) → ((i : ℕ) → o ≡ Some i → i < length (take y.count es)) → value_at (take y.count es) o ≡ value_at es o
       part None h = refl
       part (Some i) h = value_nth_take y.count es i (h i refl)
-
-  pub stands_by : on_top y.starts (newest_of (names (take y.count es)) k) ≡ stands (store_of y es).levels k
-  stands_by = sym (stands_cut y.starts y.count es k)
 
   pub declare_refused_by : (b : Bool) (c : ℕ) → b ≡ stands (store_of y es).levels k → c ≡ length es → no_place y.starts b y.count c ≡ declare_refused (store_of y es) k
   declare_refused_by b c h q =
@@ -77,3 +75,19 @@ module _ {V : Type 0} (y : Layout) (es : List (Entry V)) (ok : ordered y.starts 
       by_starts : (ss : List ℕ) (b : Bool) (n : ℕ) → no_place ss b n (length es) ≡ no_place (cut ss n (map pair es)) b (min n (length es)) (length es)
       by_starts [] b n = refl
       by_starts (s ∷ ss) b n = ap (λ t. cond b (Some Repeated) (cond t None (Some Full))) (room_by n (length es))
+
+-- what the calls of a store learn from the calls on its table and its search
+module _ {V : Type 0} (ss : List ℕ) (n : ℕ) (es : List (Entry V)) (k : ℕ) (p : Option ℕ) (at : p ≡ newest_of (names (take n es)) k) where
+  pub look_by : (r : Option V) → ordered ss n ≡ true → r ≡ value_at es p → r ≡ looked (cut ss n (map pair es)) k
+  look_by r ok e = e ∙ ap (value_at es) at ∙ looked_by (record { starts = ss; count = n }) es ok k
+
+  pub here_by : (r : Bool) → r ≡ on_top ss p → r ≡ stands (cut ss n (map pair es)) k
+  here_by r e = e ∙ ap (on_top ss) at ∙ sym (stands_cut ss n es k)
+
+module _ {V : Type 0} (ss : List ℕ) (n : ℕ) (es : List (Entry V)) where
+  pub enter_by : (r : Result (Unit {0}) Refusal) → r ≡ answer (too_deep ss) → r ≡ answer (too_deep (cut ss n (map pair es)))
+  enter_by r e = e ∙ ap answer (enter_refused_by (record { starts = ss; count = n }) es)
+
+  pub enters_by : (ss' : List ℕ) (n' : ℕ) → ◌≡◌ {A = Layout} (record { starts = ss'; count = n' }) (opened (record { starts = ss; count = n }))
+      → ◌≡◌ {A = Store V} (record { capacity = length es; levels = cut ss' n' (map pair es) }) (entered (record { capacity = length es; levels = cut ss n (map pair es) }))
+  enters_by ss' n' e = entered_by (record { starts = ss; count = n }) es (record { starts = ss'; count = n' }) e

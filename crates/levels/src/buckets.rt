@@ -2,12 +2,13 @@
 ghost use Rattle.std.specs.Prelude.{◌≡◌, None, length, replicate, slice_index_or, slice_set};
 ghost use Rattle.levels.specs.Linked.{bucket};
 
-const BUCKETS: u16 = 64;
+// A chain for each remainder of a name.
+const BUCKETS: usize = 64;
 
 // A head is the place of the newest entry in its chain, if there is one.
 #[derive(Drop)]
 pub struct Buckets {
-    heads: [Option<usize>; 64],
+    heads: [Option<usize>; BUCKETS],
     ghost size: { length heads ≡ 64 },
 }
 
@@ -16,20 +17,22 @@ impl Buckets {
     pub fn new() -> Self
         ensures result { result.heads ≡ replicate 64 None }
     {
-        Buckets { heads: [None; 64] }
+        Buckets {
+            heads: [None; BUCKETS],
+        }
     }
 
     // The head of the chain that the name belongs to.
     pub fn head(&self, name: u16) -> Option<usize>
         ensures result { result ≡ slice_index_or self.now.heads (bucket name) None }
     {
-        self.heads[(name % BUCKETS) as usize]
+        self.heads[usize::from(name) % BUCKETS]
     }
 
     // Another head for the chain that the name belongs to.
     pub fn set_head(&mut self, name: u16, head: Option<usize>)
         ensures leaves { self.new.heads ≡ slice_set self.old.heads (bucket name) head }
     {
-        self.heads[(name % BUCKETS) as usize] = head;
+        self.heads[usize::from(name) % BUCKETS] = head;
     }
 }

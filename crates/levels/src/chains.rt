@@ -25,6 +25,7 @@ pub struct Chains<'a, V> {
 
 impl<'a, V: Copy> Chains<'a, V> {
     // A store with no level, whatever the entries hold. It keeps no entry past the first 256.
+    #[tactic(auto, using(crate::proofs::Storing::store_new))]
     pub fn new(entries: &'a mut [Entry<V>]) -> Self
         ensures result { store_of (layout result.levels) result.entries.now ≡ record { capacity = min 256 (length entries.old); levels = [] } }
         ensures bound { result.entries.now ≡ take 256 entries.old }
@@ -68,10 +69,12 @@ impl<'a, V: Copy> Looking<V> for Chains<'a, V> {
         self.entries.len()
     }
 
+    #[tactic(auto, using(crate::proofs::Storing::look_by))]
     fn look(&self, name: u16) -> Option<V> {
         value_at(self.entries, self.place_of(name))
     }
 
+    #[tactic(auto, using(crate::proofs::Storing::here_by))]
     fn here(&self, name: u16) -> bool {
         self.levels.on_top(self.place_of(name))
     }
@@ -83,6 +86,7 @@ impl<'a, V: Copy> Declaring<V> for Chains<'a, V> {
         self.buckets = Buckets::new();
     }
 
+    #[tactic(auto, using(crate::proofs::Storing::enter_by, crate::proofs::Storing::enters_by))]
     fn enter(&mut self) -> Result<(), Refusal> {
         self.levels.enter()
     }

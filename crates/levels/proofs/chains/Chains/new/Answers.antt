@@ -1,6 +1,4 @@
 use Rattle.std.proofs.Common.{ap}
-use Rattle.levels.specs.Layout.{layout}
-use Rattle.levels.proofs.Storing.{store_new}
 use Rattle.levels.proofs.Chaining.{linked_none}
 use Rattle.levels.proofs.chains.Chains.new.Goals as goal
 
@@ -8,6 +6,3 @@ pub invariant_of-result : goal.invariant_of-result
 invariant_of-result g c =
     let l = linked_none c.usable.result.now c.new-2.result.heads c.new.result.count c.new-2.ensures.result (ap (λ y. y.count) c.new.ensures.result) in
     record { within = l.within; threaded = l.threaded; headed = l.headed }
-
-pub returns-clause-result : goal.returns-clause-result
-returns-clause-result g c = store_new (layout c.new.result) c.args.entries.now c.usable.result.now c.new.ensures.result c.usable.ensures.result
