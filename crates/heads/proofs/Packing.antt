@@ -11,7 +11,7 @@ and_left false b h = h
 
 pub and_right : (a b : Bool) → (a && b) ≡ true → b ≡ true
 and_right true b h = h
-and_right false b h = absurd (let z : ◌≡◌ {A = ℕ} 0 1 = cc in omega arith)
+and_right false b h = cc
 
 -- all of a list and its last are low where the longer list is
 pub low_more : (cs : List ℕ) (c : ℕ) → low (cs ++ c ∷ []) ≡ (low cs && ltb c 8)

@@ -10,7 +10,7 @@ use Rattle.heads.proofs.Packing.{and_left, and_right, low_more, low_reverse, dig
 module _ (h : ℕ) where
   told : (b : Bool) (x : ℕ) → cond b (Some x) None ≡ Some h → (b ≡ true) × (x ≡ h)
   told true x e = (refl, cc)
-  told false x e = absurd (let z : ◌≡◌ {A = ℕ} 0 1 = cc in omega arith)
+  told false x e = cc
 
   pub head_fits : (ps : List ℕ) (t : ℕ) → head_of ps t ≡ Some h → fits ps t ≡ true
   head_fits ps t e = (told (fits ps t) (packed ps t) e).0
@@ -110,7 +110,7 @@ pub head_none : (k : ℕ) (ps : List ℕ) (t : ℕ) → None ≡ head_of (take k
 head_none k ps t e = by (fits ps t) refl
   where
     by : (b : Bool) → fits ps t ≡ b → None ≡ cond b (Some (packed ps t)) None
-    by true f = absurd (let g = e ∙ ap (λ b. cond b (Some (packed (take k ps) t)) None) (fits_take k ps t f) in let z : ◌≡◌ {A = ℕ} 0 1 = cc in omega arith)
+    by true f = let g = e ∙ ap (λ b. cond b (Some (packed (take k ps) t)) None) (fits_take k ps t f) in cc
     by false f = refl
 
 pub head_bare : (t : ℕ) → bare_head t ≡ head_of [] t

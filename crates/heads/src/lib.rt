@@ -6,9 +6,10 @@
 ghost use Rattle.std.specs.Prelude.{◌≡◌, length};
 ghost use Rattle.heads.specs.Heads.{bare_head, pushed, head_of, Pushes, Unpacks, parameters_of, return_of, nth};
 
-// A code is below 8, and takes 3 bits.
+// A code is below 8.
 const CODES: u64 = 8;
 
+// So it takes 3 bits.
 const CODE_BITS: u32 = 3;
 
 // The count is below 32.

@@ -17,24 +17,24 @@ use Rattle.levels.proofs.Storing.{declare_refused_by}
 -- a place that is given lies below the capacity, and there is a level
 module _ (b : Bool) (n c : ℕ) where
   by_repeated : (r : Bool) → cond r (Some Repeated) (cond (ltb n c) None (Some Full)) ≡ None → ltb n c ≡ true
-  by_repeated true h = absurd (let z : ◌≡◌ {A = ℕ} 0 1 = cc in omega arith)
+  by_repeated true h = cc
   by_repeated false h = by_room (ltb n c) h
     where
       by_room : (t : Bool) → cond t None (Some Full) ≡ None → t ≡ true
       by_room true h = refl
-      by_room false h = absurd (let z : ◌≡◌ {A = ℕ} 0 1 = cc in omega arith)
+      by_room false h = cc
 
   pub place_low : (ss : List ℕ) → no_place ss b n c ≡ None → n < c
-  place_low [] h = absurd (let z : ◌≡◌ {A = ℕ} 0 1 = cc in omega arith)
+  place_low [] h = cc
   place_low (s ∷ ss) h = true-ltb n c (sym (by_repeated b h))
 
   pub place_level : (ss : List ℕ) → no_place ss b n c ≡ None → 0 < length ss
-  place_level [] h = absurd (let z : ◌≡◌ {A = ℕ} 0 1 = cc in omega arith)
+  place_level [] h = cc
   place_level (s ∷ ss) h = omega arith
 
 module _ {V : Type 0} (es : List (Entry V)) (x : Entry V) (b : Bool) where
   cut_more : (ss : List ℕ) (n : ℕ) → ordered ss n ≡ true → no_place ss b n (length es) ≡ None → n < length es → cut ss (n + 1) (map pair (set es n x)) ≡ added (cut ss n (map pair es)) (pair x)
-  cut_more [] n ok h l = absurd (let z : ◌≡◌ {A = ℕ} 0 1 = cc in omega arith)
+  cut_more [] n ok h l = cc
   cut_more (s ∷ ss) n ok h l =
       let w : n < length (map pair es) = simp length-map l in
       ap (cut (s ∷ ss) (n + 1)) (map-set pair es n x) ∙ cut_claimed s ss n (map pair es) (pair x) ok w

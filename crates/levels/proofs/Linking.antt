@@ -3,7 +3,6 @@ use Rattle.std.proofs.Common.{◌≡◌, ℕ, zero, suc, ◌+◌, ◌<◌, ◌�
 use Rattle.std.proofs.lemmas.Bool.{cases_eq}
 use Rattle.std.proofs.lemmas.List.{get_or-set_same, get_or-set_other, get_or-replicate}
 use Rattle.levels.specs.Linked.{bucket, last_in, Threaded, Headed}
-use Rattle.levels.proofs.Searching.{some_same}
 
 -- the end of what lies up to a place, or 0 where there is none
 abbrev pub up_to : Option ℕ → ℕ
@@ -46,7 +45,7 @@ module _ (xs : List ℕ) (b : ℕ) where
   last_bucket zero i h = cc
   last_bucket (suc n) i h =
       ⊎_elim
-      (λ (a : bucket (get_or xs n 0) ≡ b). let z : i ≡ n = some_same i n (h ∙ last_hit n a) in ap (λ j. bucket (get_or xs j 0)) z ∙ a)
+      (λ (a : bucket (get_or xs n 0) ≡ b). let q = h ∙ last_hit n a in let z : i ≡ n = cc in ap (λ j. bucket (get_or xs j 0)) z ∙ a)
       (λ (a : bucket (get_or xs n 0) ≡ b → ⊥). last_bucket n i (h ∙ last_miss n a))
       (cases_eq (bucket (get_or xs n 0)) b)
 

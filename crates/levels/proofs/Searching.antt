@@ -11,15 +11,9 @@ pub known : (o : Option ℕ) → (o ≡ None) ⊎ ((k : ℕ) × (o ≡ Some k))
 known None = inl refl
 known (Some k) = inr (k, refl)
 
-pub some_none : (k : ℕ) → Some k ≡ None → ⊥
-some_none k e = let z : ◌≡◌ {A = ℕ} 0 1 = cc in omega arith
-
-pub some_same : (j k : ℕ) → Some j ≡ Some k → j ≡ k
-some_same j k e = cc
-
 label_is : (o : Option ℕ) (n : ℕ) → o ≡ Some n → is_label o n ≡ true
 label_is None n e = cc
-label_is (Some m) n e = eq-eqb m n (some_same m n e)
+label_is (Some m) n e = let q : m ≡ n = cc in eq-eqb m n q
 
 label_not : (o : Option ℕ) (n : ℕ) → (o ≡ Some n → ⊥) → is_label o n ≡ false
 label_not None n e = refl
@@ -89,7 +83,9 @@ module _ {A : Type 0} (f : A → ℕ) where
     clear_to i c j h l e =
         let s = length-map xs f in
         let t = length-map xs (λ a. Some (f a)) in
-        c j h (omega arith) (some_same (get_or (map f xs) j 0) n (sym (labelled_at xs j (omega arith)) ∙ e))
+        let at = labelled_at xs j (omega arith) in
+        let q : get_or (map f xs) j 0 ≡ n = cc in
+        c j h (omega arith) q
 
     clear_from : (i : ℕ) → Clear None (map (λ a. Some (f a)) xs) (Some n) i → Clear 0 (map f xs) n i
     clear_from i c j h l e =
@@ -109,37 +105,42 @@ module _ {A : Type 0} (f : A → ℕ) where
     law_from (Some i) w =
         let s = length-map xs f in
         let t = length-map xs (λ a. Some (f a)) in
-        (omega (arith, w.0), some_same (get_or (map f xs) i 0) n (sym (labelled_at xs i (omega (arith, w.0))) ∙ w.1), clear_from (suc i) w.2)
+        let at = labelled_at xs i (omega (arith, w.0)) in
+        let e = w.1 in
+        let q : get_or (map f xs) i 0 ≡ n = cc in
+        (omega (arith, w.0), q, clear_from (suc i) w.2)
 
 first_low : (b : Bool) (l k : ℕ) → cond b (Some 0) None ≡ Some k → k < suc l
-first_low true l k e = let z = some_same 0 k e in omega arith
-first_low false l k e = absurd (some_none k (sym e))
+first_low true l k e = let z : 0 ≡ k = cc in omega arith
+first_low false l k e = cc
 
 -- a place that is found is within
 pub newest_low : (xs : List ℕ) (n k : ℕ) → newest_of xs n ≡ Some k → k < length xs
-newest_low [] n k e = absurd (some_none k (sym e))
+newest_low [] n k e = cc
 newest_low (x ∷ xs) n k e =
     ⊎_elim
     (λ (a : newest_of xs n ≡ None). first_low (eqb x n) (length xs) k (sym (ap (λ o. later o (cond (eqb x n) (Some 0) None)) a) ∙ e))
     (λ (a : (j : ℕ) × (newest_of xs n ≡ Some j)).
     let r = newest_low xs n a.0 a.1 in
-    let q = some_same (suc a.0) k (sym (ap (λ o. later o (cond (eqb x n) (Some 0) None)) a.1) ∙ e) in
+    let s = sym (ap (λ o. later o (cond (eqb x n) (Some 0) None)) a.1) ∙ e in
+    let q : suc a.0 ≡ k = cc in
     omega arith)
     (known (newest_of xs n))
 
 -- a search of what is left from s on, by the place that a search of all finds
 low_first : (b : Bool) (i s : ℕ) → cond b (Some 0) None ≡ Some i → suc s ≤ i → ⊥
-low_first true i s e h = let z = some_same 0 i e in omega arith
-low_first false i s e h = some_none i (sym e)
+low_first true i s e h = let z : 0 ≡ i = cc in omega arith
+low_first false i s e h = cc
 
 part_some : (xs : List ℕ) (k s i : ℕ) → newest_of xs k ≡ Some i → s ≤ i → newest_of (drop s xs) k ≡ Some (i - s)
 part_some xs k zero i e h = let z : i ≡ i - 0 = omega arith in e ∙ ap Some z
-part_some [] k (suc s) i e h = absurd (some_none i (sym e))
+part_some [] k (suc s) i e h = cc
 part_some (x ∷ xs) k (suc s) i e h =
     ⊎_elim
     (λ (a : newest_of xs k ≡ None). absurd (low_first (eqb x k) i s (sym (ap (λ o. later o (cond (eqb x k) (Some 0) None)) a) ∙ e) h))
     (λ (a : (j : ℕ) × (newest_of xs k ≡ Some j)).
-    let q : suc a.0 ≡ i = some_same _ i (sym (ap (λ o. later o (cond (eqb x k) (Some 0) None)) a.1) ∙ e) in
+    let r = sym (ap (λ o. later o (cond (eqb x k) (Some 0) None)) a.1) ∙ e in
+    let q : suc a.0 ≡ i = cc in
     let z : a.0 - s ≡ i - suc s = omega arith in
     part_some xs k s a.0 a.1 (omega arith) ∙ ap Some z)
     (known (newest_of xs k))
@@ -159,10 +160,10 @@ pub part_is : (xs : List ℕ) (k s : ℕ) (ss : List ℕ) → is_some (newest_of
 part_is xs k s ss =
     ⊎_elim
     (λ (a : newest_of xs k ≡ None).
-    ap is_some (part_none xs k s (λ i q l. some_none i (sym q ∙ a))) ∙ sym (ap (on_top (s ∷ ss)) a))
+    ap is_some (part_none xs k s (λ i q l. cc)) ∙ sym (ap (on_top (s ∷ ss)) a))
     (λ (a : (i : ℕ) × (newest_of xs k ≡ Some i)).
     ⊎_elim
-    (λ (h : a.0 < s). ap is_some (part_none xs k s (λ j q l. let z : j ≡ a.0 = some_same j a.0 (sym q ∙ a.1) in omega arith)) ∙ sym (lt-leb s a.0 h))
+    (λ (h : a.0 < s). ap is_some (part_none xs k s (λ j q l. let e = sym q ∙ a.1 in let z : j ≡ a.0 = cc in omega arith)) ∙ sym (lt-leb s a.0 h))
     (λ (h : s ≤ a.0). ap is_some (part_some xs k s a.0 a.1 h) ∙ sym (le-leb s a.0 h))
     (cases_lt a.0 s)
     ∙ sym (ap (on_top (s ∷ ss)) a.1))
