@@ -1,38 +1,31 @@
-// A sheet's part of a lent area: 256 places.
-ghost use Rattle.std.specs.Prelude.{◌≡◌, suc, ◌<◌, length, take, replicate};
+// The areas that the host lends: 256 places for each sheet.
+ghost use Rattle.std.specs.Prelude.{◌≡◌, suc, length, take};
 ghost use Rattle.history.specs.Areas.{part, with_part};
 
+use crate::sheet::Sheet;
 use syntax::Frame;
 
+// So many places has an area.
+pub(crate) const AREA: usize = 8192;
+
+// The frames of all sheets.
+pub(crate) type Frames = [Frame; AREA];
+
+// The column: the type of each of these frames, by its number.
+pub(crate) type Column = [u8; AREA];
+
 // The frames of a sheet up to its END, at the place `end`.
-pub(crate) fn own_frames(frames: &[Frame], sheet: usize, end: u8) -> &[Frame]
-    requires { (sheet < 32) × (length frames.now ≡ 8192) }
-    ensures { result.now ≡ take (suc end) (part sheet frames.now) }
+pub(crate) fn own_frames(frames: &Frames, sheet: Sheet, end: u8) -> &[Frame]
+    ensures { result.now ≡ take (suc end) (part sheet.number frames.now) }
 {
-    &frames[256 * sheet..256 * sheet + end as usize + 1]
+    &frames[sheet.range()][..=end as usize]
 }
 
 // Writes a sheet's part.
-pub(crate) fn write_part<T: Copy>(area: &mut [T], sheet: usize, part: &[T])
-    requires { (sheet < 32) × ((length area.old ≡ 8192) × (length part.now ≡ 256)) }
-    ensures { area.new ≡ with_part sheet part.now area.old }
+pub(crate) fn write_part<T: Copy>(area: &mut [T; AREA], sheet: Sheet, part: &[T])
+    requires { length part.now ≡ 256 }
+    ensures { area.new ≡ with_part sheet.number part.now area.old }
 {
-    area[256 * sheet..256 * sheet + 256].copy_from_slice(part);
-}
-
-// Sets every place to the value.
-pub(crate) fn fill<T: Copy>(area: &mut [T], value: T)
-    ensures { area.new ≡ replicate (length area.old) value }
-{
-    for x in area.iter_mut() {
-        *x = value;
-    }
-}
-
-// Sets every place of a sheet's part to the value.
-pub(crate) fn fill_part<T: Copy>(area: &mut [T], sheet: usize, value: T)
-    requires { (sheet < 32) × (length area.old ≡ 8192) }
-    ensures { area.new ≡ with_part sheet (replicate 256 value) area.old }
-{
-    fill(&mut area[256 * sheet..256 * sheet + 256], value);
+    let area = &mut area[..];
+    area[sheet.range()].copy_from_slice(part);
 }

@@ -6,6 +6,7 @@ mod areas;
 pub mod book;
 mod numbers;
 pub mod reader;
+mod sheet;
 mod table;
 
 pub use book::Book;

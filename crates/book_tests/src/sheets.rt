@@ -1,5 +1,5 @@
 // Sheets to put, named by what they show.
-use syntax::Frame;
+use syntax::{Frame, Type};
 
 // A frame of these four fields.
 pub fn frame(kind: u8, t: u8, name: u16, load: u32) -> Frame {
@@ -12,10 +12,10 @@ pub fn frame(kind: u8, t: u8, name: u16, load: u32) -> Frame {
 }
 
 // void 1(T d) {} with the parameter's type and name.
-pub fn takes(t: u8, name: u16) -> [Frame; 3] {
+pub fn takes(t: Type, name: u16) -> [Frame; 3] {
     [
         frame(0x01, 5, 1, 1),
-        frame(0x02, t, name, 0),
+        frame(0x02, u8::from(t), name, 0),
         frame(0x03, 0, 0, 0),
     ]
 }

@@ -6,15 +6,7 @@ use levels::entry::Entry;
 use levels::pile::Pile;
 use levels::store::{Declaring, Looking};
 use std::alloc::{AllocError, Global};
-use syntax::Frame;
-
-// The frame where nothing is written.
-const BLANK: Frame = Frame {
-    kind: 0,
-    t: 0,
-    name: 0,
-    load: 0,
-};
+use syntax::{Diagnostic, Frame};
 
 // The book, its frames and its column.
 #[derive(Drop)]
@@ -26,15 +18,12 @@ pub struct TestBook {
 
 // The four numbers of a refusal, or zeros for a call that was done.
 pub fn told(answer: Result<(), Fault>) -> [usize; 4] {
-    match answer {
-        Ok(()) => [0, 0, 0, 0],
-        Err(fault) => numbers(fault),
-    }
+    answer.err().map_or([0; 4], numbers)
 }
 
 // The four numbers of a fault.
 pub fn numbers(fault: Fault) -> [usize; 4] {
-    let d = fault.diagnostic();
+    let d = Diagnostic::from(fault);
     [
         d.number as usize,
         d.layer as usize,
@@ -45,37 +34,30 @@ pub fn numbers(fault: Fault) -> [usize; 4] {
 
 // How many were walked, and the four numbers of the fault or zeros; a refused check has 99 walked.
 pub fn answered(answer: Result<Checked, Fault>) -> [usize; 5] {
-    let (walked, n) = match answer {
+    let (walked, [number, layer, sheet, place]) = match answer {
         Err(fault) => (99, numbers(fault)),
-        Ok(
-            Checked {
-                walked,
-                fault: Some(fault),
-            },
-        ) => (walked, numbers(fault)),
-        Ok(
-            Checked {
-                walked,
-                fault: None,
-            },
-        ) => (walked, [0, 0, 0, 0]),
+        Ok(checked) => (checked.walked, checked.fault.map_or([0; 4], numbers)),
     };
-    [walked, n[0], n[1], n[2], n[3]]
+    [walked, number, layer, sheet, place]
 }
 
-// An entry of a store that was lent to another before.
-fn used<V>(value: V) -> Entry<V> {
-    Entry {
-        name: 7,
-        value,
-        next: 9,
-    }
+// The place in an area of a place of a sheet.
+fn at(sheet: usize, place: usize) -> usize {
+    sheet.saturating_mul(256).saturating_add(place)
+}
+
+// An entry of a store.
+pub fn entry<V>(name: u16, value: V, next: Option<usize>) -> Entry<V> {
+    Entry { name, value, next }
 }
 
 impl TestBook {
     // A fresh book over areas that held something.
     pub fn new(heap: Global) -> Result<TestBook, AllocError> {
-        let mut frames = vec![in heap; Frame { kind: 9, ..BLANK }; 8192]?;
+        let mut frames = vec![in heap; Frame {
+            kind: 9,
+            ..Frame::BLANK
+        }; 8192]?;
         let mut column = vec![in heap; 7u8; 8192]?;
         let mut book = Book::new();
         let _ = book.fresh(&mut frames, &mut column);
@@ -98,6 +80,28 @@ impl TestBook {
         )
     }
 
+    // A fresh book over a column that is too short.
+    pub fn fresh_short(&mut self) -> [usize; 4] {
+        told(self.book.fresh(&mut self.frames, &mut [0; 9]))
+    }
+
+    // A check over such a column.
+    pub fn check_short(&mut self) -> [usize; 5] {
+        let mut entries = [entry(0, 0u64, None); 256];
+        let mut room = [entry(0, 0u8, None); 256];
+        let mut heads = Pile::new(&mut entries);
+        let mut variables = Pile::new(&mut room);
+        answered(
+            self.book
+                .check(&self.frames, &mut [0; 9], &mut heads, &mut variables),
+        )
+    }
+
+    // The type that a reader over such a column gives.
+    pub fn type_short(&self, sheet: u8, place: usize) -> usize {
+        self.type_over(&[0; 9], sheet, place)
+    }
+
     // Puts over a column that is too short.
     pub fn put_short(&mut self, sheet: u8, formed: &Formed) -> [usize; 4] {
         told(self.book.put(sheet, formed, &mut self.frames, &mut [0; 9]))
@@ -105,7 +109,7 @@ impl TestBook {
 
     // Reads, forms and puts.
     pub fn post(&mut self, sheet: u8, text: &[u8]) -> [usize; 4] {
-        let mut room = [BLANK; 9];
+        let mut room = [Frame::BLANK; 9];
         told(
             self.book
                 .post(text, sheet, &mut room, &mut self.frames, &mut self.column),
@@ -119,8 +123,8 @@ impl TestBook {
 
     // A check with a pile for the heads and chains for the variables, both over used entries.
     pub fn check(&mut self) -> [usize; 5] {
-        let mut entries = [used(5u64); 256];
-        let mut room = [used(3u8); 256];
+        let mut entries = [entry(7, 5u64, Some(9)); 256];
+        let mut room = [entry(7, 3u8, Some(9)); 256];
         let mut heads = Pile::new(&mut entries);
         let mut variables = Chains::new(&mut room);
         answered(
@@ -143,37 +147,38 @@ impl TestBook {
 
     // The host writes a frame into a sheet from outside.
     pub fn alter(&mut self, sheet: usize, place: usize, frame: Frame) {
-        let at = sheet.saturating_mul(256).saturating_add(place);
-        if at < self.frames.len() {
-            self.frames[at] = frame;
+        if let Some(there) = self.frames.get_mut(at(sheet, place)) {
+            *there = frame;
         }
     }
 
     // The host writes a number into the column from outside.
     pub fn mark(&mut self, sheet: usize, place: usize, number: u8) {
-        let at = sheet.saturating_mul(256).saturating_add(place);
-        if at < self.column.len() {
-            self.column[at] = number;
+        if let Some(there) = self.column.get_mut(at(sheet, place)) {
+            *there = number;
         }
     }
 
     // The number in the column.
     pub fn number(&self, sheet: usize, place: usize) -> usize {
-        let at = sheet.saturating_mul(256).saturating_add(place);
-        if at < self.column.len() {
-            return self.column[at] as usize;
-        }
-        999
+        self.column
+            .get(at(sheet, place))
+            .map_or(999, |n| *n as usize)
     }
 
-    // The type that the reader gives: 0 for none, 100 and the number for a refused question, 200 and the number for a refused reader.
+    // The type that the reader gives.
     pub fn type_at(&self, sheet: u8, place: usize) -> usize {
-        match self.book.reader(&self.frames, &self.column) {
-            Err(fault) => 200usize.saturating_add(fault.diagnostic().number as usize),
+        self.type_over(&self.column, sheet, place)
+    }
+
+    // The type that a reader over this column gives: 0 for none, 100 and the number for a refused question, 200 and the number
+    // for a refused reader.
+    fn type_over(&self, column: &[u8], sheet: u8, place: usize) -> usize {
+        match self.book.reader(&self.frames, column) {
+            Err(fault) => 200usize.saturating_add(numbers(fault)[0]),
             Ok(reader) => match reader.type_at(sheet, place) {
-                Err(fault) => 100usize.saturating_add(fault.diagnostic().number as usize),
-                Ok(Some(t)) => t as usize,
-                Ok(None) => 0,
+                Err(fault) => 100usize.saturating_add(numbers(fault)[0]),
+                Ok(t) => t.map_or(0, |t| u8::from(t) as usize),
             },
         }
     }

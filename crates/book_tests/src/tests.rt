@@ -1,35 +1,22 @@
 // What histories of calls answer and leave.
 use crate::sheets::*;
-use crate::test_book::TestBook;
+use crate::test_book::{TestBook, entry};
 use crate::watched::watched_check;
 use frames::Formed;
 use levels::chains::Chains;
-use levels::entry::Entry;
 use levels::pile::Pile;
 use levels::store::Looking;
 use std::alloc::Global;
 use std::process::Abort;
 use std::test::*;
+use syntax::Type;
 
 const DONE: [usize; 4] = [0, 0, 0, 0];
-
-const DOUBLE: u8 = 3;
-
-const INT: u8 = 2;
-
-// An entry that was never used.
-fn unused<V>(value: V) -> Entry<V> {
-    Entry {
-        name: 0,
-        value,
-        next: 0,
-    }
-}
 
 // A callee on sheet 0 and its caller on sheet 1, checked.
 fn checked_pair(rt: &impl Abort, heap: Global) -> Result<TestBook, Fail> {
     let mut book = TestBook::new(heap)?;
-    assert_eq!(rt; book.put(0, &takes(DOUBLE, 8)), DONE);
+    assert_eq!(rt; book.put(0, &takes(Type::Double, 8)), DONE);
     assert_eq!(rt; book.put(1, &calls(2)), DONE);
     assert_eq!(rt; book.check(), [2, 0, 0, 0, 0]);
     Ok(book)
@@ -39,7 +26,7 @@ fn checked_pair(rt: &impl Abort, heap: Global) -> Result<TestBook, Fail> {
 #[test]
 fn a_callee_changes(rt: HostRuntime) -> Result<(), Fail> {
     let mut book = checked_pair(&rt, rt.alloc())?;
-    assert_eq!(rt; book.put(0, &takes(INT, 8)), DONE);
+    assert_eq!(rt; book.put(0, &takes(Type::Int, 8)), DONE);
     assert_eq!(rt; book.check(), [2, 54, 4, 1, 2]);
     assert_eq!(rt; book.clear(0), DONE);
     assert_eq!(rt; book.check(), [1, 52, 4, 1, 2]);
@@ -51,7 +38,7 @@ fn a_callee_changes(rt: HostRuntime) -> Result<(), Fail> {
 #[test]
 fn the_same_head(rt: HostRuntime) -> Result<(), Fail> {
     let mut book = checked_pair(&rt, rt.alloc())?;
-    assert_eq!(rt; book.put(0, &takes(DOUBLE, 6)), DONE);
+    assert_eq!(rt; book.put(0, &takes(Type::Double, 6)), DONE);
     assert_eq!(rt; book.check(), [1, 0, 0, 0, 0]);
     assert_eq!(rt; book.check(), [0, 0, 0, 0, 0]);
     Ok(())
@@ -61,11 +48,11 @@ fn the_same_head(rt: HostRuntime) -> Result<(), Fail> {
 #[test]
 fn a_head_restored(rt: HostRuntime) -> Result<(), Fail> {
     let mut book = checked_pair(&rt, rt.alloc())?;
-    assert_eq!(rt; book.put(0, &takes(INT, 8)), DONE);
-    assert_eq!(rt; book.put(0, &takes(DOUBLE, 8)), DONE);
+    assert_eq!(rt; book.put(0, &takes(Type::Int, 8)), DONE);
+    assert_eq!(rt; book.put(0, &takes(Type::Double, 8)), DONE);
     assert_eq!(rt; book.check(), [2, 0, 0, 0, 0]);
     assert_eq!(rt; book.clear(0), DONE);
-    assert_eq!(rt; book.put(5, &takes(DOUBLE, 8)), DONE);
+    assert_eq!(rt; book.put(5, &takes(Type::Double, 8)), DONE);
     assert_eq!(rt; book.check(), [2, 0, 0, 0, 0]);
     Ok(())
 }
@@ -76,7 +63,7 @@ fn replaced_by_another(rt: HostRuntime) -> Result<(), Fail> {
     let mut book = checked_pair(&rt, rt.alloc())?;
     assert_eq!(rt; book.put(0, &nothing(6)), DONE);
     assert_eq!(rt; book.check(), [2, 52, 4, 1, 2]);
-    assert_eq!(rt; book.put(0, &takes(DOUBLE, 8)), DONE);
+    assert_eq!(rt; book.put(0, &takes(Type::Double, 8)), DONE);
     assert_eq!(rt; book.check(), [2, 0, 0, 0, 0]);
     Ok(())
 }
@@ -87,7 +74,7 @@ fn the_caller_first(rt: HostRuntime) -> Result<(), Fail> {
     let mut book = TestBook::new(rt.alloc())?;
     assert_eq!(rt; book.put(1, &calls(2)), DONE);
     assert_eq!(rt; book.check(), [1, 52, 4, 1, 2]);
-    assert_eq!(rt; book.put(0, &takes(DOUBLE, 8)), DONE);
+    assert_eq!(rt; book.put(0, &takes(Type::Double, 8)), DONE);
     assert_eq!(rt; book.check(), [2, 0, 0, 0, 0]);
     Ok(())
 }
@@ -96,8 +83,8 @@ fn the_caller_first(rt: HostRuntime) -> Result<(), Fail> {
 #[test]
 fn refused_puts(rt: HostRuntime) -> Result<(), Fail> {
     let mut book = checked_pair(&rt, rt.alloc())?;
-    assert_eq!(rt; book.put(4, &takes(INT, 8)), [33, 3, 4, 0]);
-    assert_eq!(rt; book.put(40, &takes(INT, 8)), [31, 3, 40, 0]);
+    assert_eq!(rt; book.put(4, &takes(Type::Int, 8)), [33, 3, 4, 0]);
+    assert_eq!(rt; book.put(40, &takes(Type::Int, 8)), [31, 3, 40, 0]);
     assert_eq!(rt; book.put(4, &two(6, 6)), [34, 3, 4, 2]);
     assert_eq!(rt; book.put_short(4, &Formed::new()), [32, 3, 4, 0]);
     assert_eq!(rt; book.clear(4), [35, 3, 4, 0]);
@@ -207,8 +194,8 @@ fn altered_heads(rt: HostRuntime) -> Result<(), Fail> {
 fn small_stores(rt: HostRuntime) -> Result<(), Fail> {
     let mut book = TestBook::new(rt.alloc())?;
     assert_eq!(rt; book.put(0, &nothing(1)), DONE);
-    let mut entries = [unused(0u64); 255];
-    let mut room = [unused(0u8); 256];
+    let mut entries = [entry(0, 0u64, None); 255];
+    let mut room = [entry(0, 0u8, None); 256];
     let mut heads = Pile::new(&mut entries);
     let mut variables = Pile::new(&mut room);
     assert_eq!(rt;
@@ -223,8 +210,8 @@ fn small_stores(rt: HostRuntime) -> Result<(), Fail> {
 #[test]
 fn small_variables(rt: HostRuntime) -> Result<(), Fail> {
     let mut book = checked_pair(&rt, rt.alloc())?;
-    let mut entries = [unused(0u64); 256];
-    let mut room = [unused(0u8); 255];
+    let mut entries = [entry(0, 0u64, None); 256];
+    let mut room = [entry(0, 0u8, None); 255];
     let mut heads = Chains::new(&mut entries);
     let mut variables = Chains::new(&mut room);
     assert_eq!(rt;
@@ -239,11 +226,11 @@ fn small_variables(rt: HostRuntime) -> Result<(), Fail> {
 #[test]
 fn altered_after_a_walk(rt: HostRuntime) -> Result<(), Fail> {
     let mut book = TestBook::new(rt.alloc())?;
-    assert_eq!(rt; book.put(0, &takes(DOUBLE, 8)), DONE);
+    assert_eq!(rt; book.put(0, &takes(Type::Double, 8)), DONE);
     assert_eq!(rt; book.put(3, &two(6, 7)), DONE);
     book.alter(3, 5, frame(0x14, 0, 0, 0));
-    let mut entries = [unused(0u64); 256];
-    let mut room = [unused(0u8); 256];
+    let mut entries = [entry(0, 0u64, None); 256];
+    let mut room = [entry(0, 0u8, None); 256];
     let mut heads = Pile::new(&mut entries);
     let mut variables = Pile::new(&mut room);
     assert_eq!(rt;
@@ -259,10 +246,10 @@ fn altered_after_a_walk(rt: HostRuntime) -> Result<(), Fail> {
 #[test]
 fn stores_left(rt: HostRuntime) -> Result<(), Fail> {
     let mut book = TestBook::new(rt.alloc())?;
-    assert_eq!(rt; book.put(0, &takes(DOUBLE, 8)), DONE);
+    assert_eq!(rt; book.put(0, &takes(Type::Double, 8)), DONE);
     assert_eq!(rt; book.put(2, &deep_fault()), DONE);
-    let mut entries = [unused(0u64); 256];
-    let mut room = [unused(0u8); 256];
+    let mut entries = [entry(0, 0u64, None); 256];
+    let mut room = [entry(0, 0u8, None); 256];
     let mut heads = Chains::new(&mut entries);
     let mut variables = Pile::new(&mut room);
     assert_eq!(rt;
@@ -294,8 +281,8 @@ fn posts(rt: HostRuntime) -> Result<(), Fail> {
 #[test]
 fn a_third_store(rt: HostRuntime) -> Result<(), Fail> {
     let mut book = checked_pair(&rt, rt.alloc())?;
-    let mut entries = [unused(0u64); 256];
-    let mut room = [unused(0u8); 256];
+    let mut entries = [entry(0, 0u64, None); 256];
+    let mut room = [entry(0, 0u8, None); 256];
     let mut heads = Pile::new(&mut entries);
     let mut variables = Chains::new(&mut room);
     assert_eq!(rt;
@@ -308,5 +295,16 @@ fn a_third_store(rt: HostRuntime) -> Result<(), Fail> {
         watched_check(&mut book, &mut heads, &mut variables),
         [1, 38, 3, 3, 0, 5, 0]
     );
+    Ok(())
+}
+
+// An area of another length refuses fresh, check and the reader, which name no sheet.
+#[test]
+fn areas_of_another_length(rt: HostRuntime) -> Result<(), Fail> {
+    let mut book = checked_pair(&rt, rt.alloc())?;
+    assert_eq!(rt; book.fresh_short(), [32, 3, 255, 0]);
+    assert_eq!(rt; book.check_short(), [99, 32, 3, 255, 0]);
+    assert_eq!(rt; book.type_short(1, 1), 232);
+    assert_eq!(rt; book.type_at(1, 1), 3);
     Ok(())
 }

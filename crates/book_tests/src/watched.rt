@@ -62,13 +62,13 @@ pub fn watched_check<H: Declaring<u64>, S: Declaring<u8>>(
         inner: variables,
         alterations: 0,
     };
-    let a = test.check_with(&mut first, &mut second);
+    let [walked, number, layer, sheet, place] = test.check_with(&mut first, &mut second);
     [
-        a[0],
-        a[1],
-        a[2],
-        a[3],
-        a[4],
+        walked,
+        number,
+        layer,
+        sheet,
+        place,
         first.alterations,
         second.alterations,
     ]

@@ -16,7 +16,7 @@ use Rattle.cpp.specs.Cpp.{cpp}
 use Rattle.records.specs.declared.record.Record.{Record}
 use Rattle.records.specs.declared.fault.Fault.{Fault as Refusal}
 use Rattle.records.specs.Faults.{told}
-use Rattle.records.specs.Records.{empty, record_of, state_of}
+use Rattle.records.specs.Records.{record_of, state_of}
 use Rattle.records.specs.Stores.{sheet_levels, variables_left}
 use Rattle.records.proofs.Rows.{record_read}
 use Rattle.records.proofs.Refusing.{OtherLength, other_sized, both_sized}
@@ -54,10 +54,10 @@ valid_told (Some x) v e = not-true v (sym e)
 valid_told None v e = not-false v (sym e)
 
 -- an accepted check: the records and the column after it
-module _ (rs rs' : List Record) (v v' : Bool) (fs : List Frame) (k k' : List ℕ) (n : ℕ) (o : Option Fault)
+module _ (rs rs' : List (Option Record)) (v v' : Bool) (fs : List Frame) (k k' : List ℕ) (n : ℕ) (o : Option Fault)
     (full : length rs' ≡ 32)
     (count : n ≡ count_below 32 (λ t. due_flag (record_at (state_of rs false fs k) t)))
-    (records : (t : ℕ) → t < 32 → record_of (get_or rs' t empty) ≡ checked_record cpp (state_of rs false fs k) t)
+    (records : (t : ℕ) → t < 32 → record_of (get_or rs' t None) ≡ checked_record cpp (state_of rs false fs k) t)
     (column : k' ≡ rewritten 32 (λ t. due_flag (record_at (state_of rs false fs k) t)) (checked_column cpp (state_of rs false fs k)) k)
     (fault : o ≡ lowest 32 (kept_at rs')) (valid : v' ≡ not (filled o)) where
   -- the book before
@@ -65,7 +65,7 @@ module _ (rs rs' : List Record) (v v' : Bool) (fs : List Frame) (k k' : List ℕ
   book = state_of rs v fs k
 
   -- whether it was valid does not matter
-  record_left : (t : ℕ) → t < 32 → record_of (get_or rs' t empty) ≡ checked_record cpp book t
+  record_left : (t : ℕ) → t < 32 → record_of (get_or rs' t None) ≡ checked_record cpp book t
   unfolding checked_record
   record_left t l = records t l
 
@@ -98,6 +98,6 @@ module _ (rs rs' : List Record) (v v' : Bool) (fs : List Frame) (k k' : List ℕ
       }
 
 -- the variables left do not hang on whether the book was valid
-pub variables_same : (rs : List Record) (v w : Bool) (fs : List Frame) (k : List ℕ) (s : Store ℕ) → variables_left (state_of rs v fs k) s ≡ variables_left (state_of rs w fs k) s
+pub variables_same : (rs : List (Option Record)) (v w : Bool) (fs : List Frame) (k : List ℕ) (s : Store ℕ) → variables_left (state_of rs v fs k) s ≡ variables_left (state_of rs w fs k) s
 unfolding sheet_levels
 variables_same rs v w fs k s = refl

@@ -43,13 +43,13 @@ allowed n k x y z e l = ap₂ (λ a b. cond a (cond b x y) z) (eq-eqb n 256 e) (
 -- a sheet that is examined under heads held
 module _ (h : Heads) (row : Record) (fs : List Frame) (hs : List Numbers) (col col' : List ℕ) (s s' : Store ℕ) (a : Result Verdict Refusal) (v : Verdict) (o : Outcome)
     (held : Held h hs) (wide : length col ≡ 256) (room : 256 ≤ s.capacity)
-    (told : a ≡ examined (length col) s.capacity (recorded fs row.name row.head) o)
-    (leaves : Leaves col col' s s' (recorded fs row.name row.head) o)
-    (law : Decides hs fs (length col) s.capacity (recorded fs row.name row.head) a col' s'.levels)
+    (told : a ≡ examined (length col) s.capacity (recorded fs row.signature.name row.signature.head) o)
+    (leaves : Leaves col col' s s' (recorded fs row.signature.name row.signature.head) o)
+    (law : Decides hs fs (length col) s.capacity (recorded fs row.signature.name row.signature.head) a col' s'.levels)
     (given : a ≡ Ok v) where
   -- the frames are those recorded
   abbrev b : Bool
-  b = recorded fs row.name row.head
+  b = recorded fs row.signature.name row.signature.head
 
   -- the law's verdict on it
   abbrev again : Judged
@@ -121,23 +121,23 @@ module _ (h : Heads) (row : Record) (fs : List Frame) (hs : List Numbers) (col c
 -- ## the sheet's part of the column
 
 -- the sheet t whose part of the frames is b, its part of the column cut out and written back
-module _ (b : List Frame) (t : ℕ) (row : Record) (fs : List Frame) (hs : List Numbers) (k col' : List ℕ) (s s' : Store ℕ) (a : Result Verdict Refusal) (v : Verdict) (o : Outcome) where
+module _ (b : List Frame) (t from to : ℕ) (row : Record) (fs : List Frame) (hs : List Numbers) (k col' : List ℕ) (s s' : Store ℕ) (a : Result Verdict Refusal) (v : Verdict) (o : Outcome) where
   -- its part of the column
   abbrev cut : List ℕ
-  cut = take (256 * t + 256 - 256 * t) (drop (256 * t) k)
+  cut = take (to - from) (drop from k)
 
   -- an examination of its frames walks it as the law says
   pub sheet_walked :
-      t < 32 → length k ≡ 8192 → 256 ≤ s.capacity → fs ≡ take (suc row.end) b →
-      a ≡ examined (length cut) s.capacity (recorded fs row.name row.head) o →
-      Leaves cut col' s s' (recorded fs row.name row.head) o →
-      Decides hs fs (length cut) s.capacity (recorded fs row.name row.head) a col' s'.levels →
+      t < 32 → from ≡ 256 * t → to ≡ 256 * t + 256 → length k ≡ 8192 → 256 ≤ s.capacity → fs ≡ take (suc row.end) b →
+      a ≡ examined (length cut) s.capacity (recorded fs row.signature.name row.signature.head) o →
+      Leaves cut col' s s' (recorded fs row.signature.name row.signature.head) o →
+      Decides hs fs (length cut) s.capacity (recorded fs row.signature.name row.signature.head) a col' s'.levels →
       a ≡ Ok v →
-      (h : Heads) → Held h hs → SheetWalked h b t row v k (put_mid (256 * t) (256 * t + 256 - 256 * t) k col') s s'
-  sheet_walked l e room own told leaves law given h held =
-      let w = examined_sheet h row fs hs cut col' s s' a v o held (part_long k t l e) room told leaves law given in
+      (h : Heads) → Held h hs → SheetWalked h b t row v k (put_mid from (to - from) k col') s s'
+  sheet_walked l i j e room own told leaves law given h held =
+      let w = examined_sheet h row fs hs cut col' s s' a v o held (part_long k t from to l i j e) room told leaves law given in
       record {
         verdict = w.0 ∙ ap (λ gs. blame (walked_again cpp h (form gs) (row_of row))) own;
-        column = part_written k (column_of (judged h b row)) col' t (w.1 ∙ ap (λ gs. column_of (walked_again cpp h (form gs) (row_of row))) own);
+        column = part_written k (column_of (judged h b row)) col' t from to i j (w.1 ∙ ap (λ gs. column_of (walked_again cpp h (form gs) (row_of row))) own);
         variables = w.2 ∙ ap (λ gs. releveled s (levels_again h (form gs) (row_of row))) own;
       }

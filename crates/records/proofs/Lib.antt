@@ -3,7 +3,6 @@ pub mod Spans
 pub mod Rows
 pub mod Updates
 pub mod Marking
-pub mod Naming
 pub mod Refusing
 pub mod Telling
 pub mod Replacing
@@ -14,7 +13,9 @@ pub mod Declaring
 pub mod Judging
 pub mod Examining
 pub mod OneMore
+pub mod Naming
 pub mod Settling
 pub mod Lowest
 pub mod Checking
+pub mod Types
 pub mod Questions

@@ -1,12 +1,13 @@
 -- The fault of the lowest faulty sheet, by the verdicts kept.
-use Rattle.std.proofs.Common.{◌≡◌, ℕ, zero, suc, ◌+◌, ◌<◌, true, false, cond, List, get_or, Some, None, Option, sym, refl, ap, ◌∙◌, subst, ap₂, inl, inr, add-one, arith}
-use Rattle.std.proofs.lemmas.Bool.{cases_eq}
-use Rattle.walk.specs.declared.verdict.Verdict.{Verdict}
-use Rattle.history.specs.Words.{or_else, lowest}
-use Rattle.history.specs.Language.{Fault, fault_on}
+use Rattle.std.proofs.Common.{◌≡◌, ℕ, zero, suc, ◌+◌, ◌<◌, true, false, List, get_or, is_some, Some, None, Option, refl, sym, ap, ◌∙◌, subst, ap₂, inl, inr, add-one, arith}
+use Rattle.std.proofs.lemmas.Bool.{cases_eq, false≢true}
+use Rattle.history.specs.Words.{or_else, lowest, map_some}
+use Rattle.history.specs.Language.{Fault}
 use Rattle.history.specs.Working.{kept_fault}
 use Rattle.records.specs.declared.record.Record.{Record}
-use Rattle.records.specs.Records.{empty, kept_of, row_of, record_of}
+use Rattle.records.specs.declared.fault.Fault.{Fault as Refusal}
+use Rattle.records.specs.Faults.{told}
+use Rattle.records.specs.Records.{record_of}
 
 -- no number answers below 0
 pub lowest_start : {X : Type 0} (f : ℕ → Option X) → lowest 0 f ≡ None
@@ -28,15 +29,15 @@ lowest_found (suc n) k f x e i l =
     ]
 
 -- the fault that sheet t keeps
-abbrev pub kept_at : List Record → ℕ → Option Fault
-kept_at rs t = kept_fault t (record_of (get_or rs t empty))
+abbrev pub kept_at : List (Option Record) → ℕ → Option Fault
+kept_at rs t = kept_fault t (record_of (get_or rs t None))
 
-module _ (rs : List Record) (t : ℕ) (r : Record) (is : r ≡ get_or rs t empty) where
-  -- an empty sheet has none
-  pub empty_fault : r.filled ≡ false → kept_at rs t ≡ None
-  empty_fault e = ap (λ q. kept_fault t (record_of q)) (sym is) ∙ ap (λ b. kept_fault t (cond b (Some (row_of r)) None)) e
+-- a fault that is there is told
+pub told_there : (r : Option Refusal) → is_some r ≡ true → (f : Fault) × (map_some told r ≡ Some f)
+told_there (Some e) i = (told e, refl)
+told_there None i = absurd (false≢true i)
 
-  -- a filled one has that of its verdict
-  pub filled_fault : (v : Verdict) → r.filled ≡ true → r.kept ≡ v → kept_at rs t ≡ fault_on t (kept_of v)
-  filled_fault v e i =
-      ap (λ q. kept_fault t (record_of q)) (sym is) ∙ ap (λ b. kept_fault t (cond b (Some (row_of r)) None)) e ∙ ap (λ w. fault_on t (kept_of w)) i
+-- and one that is not is not
+pub told_none : (r : Option Refusal) → is_some r ≡ false → map_some told r ≡ None
+told_none (Some e) i = absurd (false≢true (sym i))
+told_none None i = refl

@@ -1,21 +1,20 @@
 -- A type reader and the questions to it: their tests as the law's answers, and what every history makes of these.
-use Rattle.std.proofs.Common.{◌≡◌, ℕ, suc, ◌+◌, ◌*◌, ◌<◌, ◌≤◌, Bool, true, false, cond, not, ◌&&◌, ltb, List, length, get_or, Some, None, Ok, Err, Option, Result, sym, refl, ap, ◌∙◌, subst, ap₂, arith}
-use Rattle.std.proofs.lemmas.Bool.{cond-true, cond-false, cond_both, lt-ltb, le-ltb, and_left, not-true, not-false}
-use Rattle.std.proofs.lemmas.List.{get_or_past, get_or_default}
+use Rattle.std.proofs.Common.{◌≡◌, ℕ, suc, ◌+◌, ◌*◌, ◌<◌, ◌≤◌, Bool, true, cond, ◌&&◌, ltb, List, get_or, Some, None, Ok, Err, Option, Result, sym, ap, ◌∙◌, subst, ap₂, arith}
+use Rattle.std.proofs.lemmas.Bool.{cond-true, cond-false, lt-ltb, le-ltb, and_left}
 use Rattle.syntax.specs.declared.frame.Frame.{Frame}
 use Rattle.syntax.specs.Writing.{blank}
 use Rattle.history.specs.Language.{Fault, as_type}
 use Rattle.history.specs.Calls.{refusal, sized, reader_refusal}
 use Rattle.history.specs.Areas.{part}
-use Rattle.history.specs.Working.{State, working_reading, record_at, type_asked, asked}
+use Rattle.history.specs.Working.{State, working_reading, type_asked, record_at, asked}
 use Rattle.history.specs.Promise.{ReaderPromise, QuestionPromise}
 use Rattle.history.proofs.Parts.{place_in_part}
 use Rattle.cpp.specs.Sheet.{expression}
 use Rattle.cpp.specs.Cpp.{cpp}
 use Rattle.cpp.proofs.Laws.{promises}
 use Rattle.records.specs.declared.record.Record.{Record}
-use Rattle.records.specs.Records.{empty, row_of, state_of}
-use Rattle.records.proofs.Rows.{filled_row, empty_row}
+use Rattle.records.specs.Records.{row_of, record_of, state_of}
+use Rattle.records.proofs.Rows.{record_read}
 use Rattle.records.proofs.Refusing.{OtherLength, other_sized, both_sized}
 
 -- ## what every history makes of an answer
@@ -43,7 +42,7 @@ module _ (valid : Bool) (fl cl : ℕ) where
 
 -- ## a question
 
-module _ (rs : List Record) (v : Bool) (f : List Frame) (k : List ℕ) (s p : ℕ) where
+module _ (rs : List (Option Record)) (v : Bool) (f : List Frame) (k : List ℕ) (s p : ℕ) where
   -- the question has this answer
   abbrev pub Answered : Option ℕ → Type 0
   Answered o = Ok o ≡ asked cpp (state_of rs v f k) s p
@@ -61,73 +60,29 @@ module _ (rs : List Record) (v : Bool) (f : List Frame) (k : List ℕ) (s p : �
       sym (cond-false (ltb 31 s) (Err (refusal 31 s)) (Ok (type_asked cpp (state_of rs v f k) s p (record_at (state_of rs v f k) s))) (le-ltb 31 s l) ∙ ap Ok e)
 
   -- an empty sheet has no types
-  pub asked_empty : (r : Record) → r ≡ get_or rs s empty → s ≤ 31 → not r.filled ≡ true → Answered None
-  asked_empty r is l e =
-      asked_row None l (ap (type_asked cpp (state_of rs v f k) s p) (empty_row rs s (ap (λ x. x.filled) (sym is) ∙ not-true r.filled e)))
+  pub asked_empty : s ≤ 31 → get_or rs s None ≡ None → Answered None
+  asked_empty l e = asked_row None l (ap (type_asked cpp (state_of rs v f k) s p) (record_read rs s ∙ ap record_of e))
 
   -- a filled one those of its places up to the end
-  asked_filled : (o : Option ℕ) → s ≤ 31 → (get_or rs s empty).filled ≡ true → type_asked cpp (state_of rs v f k) s p (Some (row_of (get_or rs s empty))) ≡ o → Answered o
-  asked_filled o l e i = asked_row o l (ap (type_asked cpp (state_of rs v f k) s p) (filled_row rs s e) ∙ i)
+  asked_filled : (r : Record) (o : Option ℕ) → s ≤ 31 → get_or rs s None ≡ Some r → type_asked cpp (state_of rs v f k) s p (Some (row_of r)) ≡ o → Answered o
+  asked_filled r o l e i = asked_row o l (ap (type_asked cpp (state_of rs v f k) s p) (record_read rs s ∙ ap record_of e) ∙ i)
 
   -- so none past it
-  pub asked_past : (r : Record) → r ≡ get_or rs s empty → s ≤ 31 → not r.filled ≡ false → r.end < p → Answered None
-  asked_past r is l e m =
-      let end = (get_or rs s empty).end in
+  pub asked_past : (r : Record) → s ≤ 31 → get_or rs s None ≡ Some r → r.end < p → Answered None
+  asked_past r l e m =
       let spoken = expression (get_or (part s f) p blank) in
-      let past : suc end ≤ p = subst (λ x. x.end < p) is m in
-      asked_filled None l (ap (λ x. x.filled) (sym is) ∙ not-false r.filled e)
-      (cond-false (ltb p (suc end) && spoken) (as_type (get_or (part s k) p 0)) None (and_left (ltb p (suc end)) spoken (le-ltb p (suc end) past)))
+      let past : suc r.end ≤ p = m in
+      asked_filled r None l e
+      (cond-false (ltb p (suc r.end) && spoken) (as_type (get_or (part s k) p 0)) None (and_left (ltb p (suc r.end)) spoken (le-ltb p (suc r.end) past)))
 
--- a question that names a place of a filled sheet, up to its end
-pub record Within (rs : List Record) (v : Bool) (f : List Frame) (k : List ℕ) (s p : ℕ) : Type 0 where
-  pub sheet : s ≤ 31
-  pub filled : (get_or rs s empty).filled ≡ true
-  pub below : p ≤ (get_or rs s empty).end
-  pub short : (get_or rs s empty).end < 256
-
--- by the tests of the row looked at
-pub within : (rs : List Record) (v : Bool) (f : List Frame) (k : List ℕ) (s p : ℕ) (r : Record) → r ≡ get_or rs s empty → s ≤ 31 → not r.filled ≡ false → p ≤ r.end → r.end < 256 → Within rs v f k s p
-within rs v f k s p r e l t b m =
-    record {
-      sheet = l;
-      filled = ap (λ x. x.filled) (sym e) ∙ not-false r.filled t;
-      below = subst (λ x. p ≤ x.end) e b;
-      short = subst (λ x. x.end < 256) e m;
-    }
-
-module _ {rs : List Record} {v : Bool} {f : List Frame} {k : List ℕ} {s p : ℕ} where
-  -- up to it the frame and the column's number decide
-  asked_place : Within rs v f k s p → (o : Option ℕ) → cond (expression (get_or f (256 * s + p) blank)) (as_type (get_or k (256 * s + p) 0)) None ≡ o → Answered rs v f k s p o
-  asked_place w o e =
-      let end = (get_or rs s empty).end in
-      let near : p < 256 = omega (arith, w.below, w.short) in
-      let inside : ltb p (suc end) ≡ true = lt-ltb p (suc end) (omega (arith, w.below)) in
-      asked_filled rs v f k s p o w.sheet w.filled
+  -- at a place up to the end the frame and the column's number decide
+  pub asked_place : (r : Record) → s ≤ 31 → get_or rs s None ≡ Some r → p ≤ r.end → r.end < 256 → (i : ℕ) → i ≡ 256 * s + p → (o : Option ℕ) →
+      cond (expression (get_or f i blank)) (as_type (get_or k i 0)) None ≡ o → Answered o
+  asked_place r l is below short i at o e =
+      let near : p < 256 = omega arith in
+      let inside : ltb p (suc r.end) ≡ true = lt-ltb p (suc r.end) (omega arith) in
+      asked_filled r o l is
       (ap (λ t. cond (t && expression (get_or (part s f) p blank)) (as_type (get_or (part s k) p 0)) None) inside
       ∙ ap₂ (λ x n. cond (expression x) (as_type n) None) (sym (place_in_part f s p blank near)) (sym (place_in_part k s p 0 near))
+      ∙ ap (λ j. cond (expression (get_or f j blank)) (as_type (get_or k j 0)) None) (sym at)
       ∙ e)
-
-  -- no type past the frames
-  pub asked_no_frame : Within rs v f k s p → length f ≤ 256 * s + p → Answered rs v f k s p None
-  unfolding expression
-  asked_no_frame w l =
-      asked_place w None (ap (λ x. cond (expression x) (as_type (get_or k (256 * s + p) 0)) None) (get_or_past f (256 * s + p) blank l))
-
-  -- none past the column
-  pub asked_no_number : Within rs v f k s p → length k ≤ 256 * s + p → Answered rs v f k s p None
-  asked_no_number w l =
-      let spoken = expression (get_or f (256 * s + p) blank) in
-      asked_place w None
-      (ap (λ n. cond spoken (as_type n) None) (get_or_past k (256 * s + p) 0 l) ∙ cond_both spoken None None (λ o. o ≡ None) (λ _. refl) (λ _. refl))
-
-  -- none where the frame is no expression
-  pub asked_unspoken : Within rs v f k s p → 256 * s + p < length f → (d : Frame) → expression (get_or f (256 * s + p) d) ≡ false → Answered rs v f k s p None
-  asked_unspoken w l d e =
-      asked_place w None
-      (cond-false (expression (get_or f (256 * s + p) blank)) (as_type (get_or k (256 * s + p) 0)) None (ap expression (get_or_default f (256 * s + p) blank d l) ∙ e))
-
-  -- and else the column's number, if it is a type
-  pub asked_spoken : Within rs v f k s p → 256 * s + p < length f → (d : Frame) → true ≡ expression (get_or f (256 * s + p) d) → (o : Option ℕ) → as_type (get_or k (256 * s + p) 0) ≡ o → Answered rs v f k s p o
-  asked_spoken w l d e o i =
-      asked_place w o
-      (cond-true (expression (get_or f (256 * s + p) blank)) (as_type (get_or k (256 * s + p) 0)) None (ap expression (get_or_default f (256 * s + p) blank d l) ∙ sym e) ∙ i)

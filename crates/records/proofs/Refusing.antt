@@ -1,12 +1,13 @@
 -- The tests of the edits in their order, and what a call does that is refused or accepted.
-use Rattle.std.proofs.Common.{◌≡◌, ℕ, ◌<◌, ◌≤◌, Bool, true, false, not, ◌&&◌, eqb, ◌⊎◌, is_some, Some, None, Ok, Err, Option, Result, sym, refl, ap, ◌∙◌, ap₂, inl, inr}
+use Rattle.std.proofs.Common.{◌≡◌, ℕ, ◌<◌, ◌≤◌, Bool, true, false, not, ◌&&◌, eqb, ◌⊎◌, List, is_some, Some, None, Ok, Err, Option, Result, sym, refl, ap, ◌∙◌, ap₂, subst₂, inl, inr}
 use Rattle.std.proofs.lemmas.Bool.{eq-eqb, ne_eqb, and_left, and_right, lt-ltb, le-ltb}
 use Rattle.syntax.specs.declared.frame.Frame.{Frame}
 use Rattle.history.specs.Words.{filled}
 use Rattle.history.specs.Language.{Fault, Signatures}
-use Rattle.history.specs.Calls.{refusal, sized, Call, Call.put, Call.clear, Act, Act.wrote, Act.emptied, guard, unless_repeated, elsewhere, outcome, Answer.refused, Answer.done}
+use Rattle.history.specs.Calls.{refusal, sized, Call, Call.put, Call.clear, Act, Act.wrote, Act.emptied, guard, unless_repeated, elsewhere, outcome, Answer, Answer.refused, Answer.done}
 use Rattle.history.specs.Working.{State, working_signatures, working_after, working_stepped, working_told}
 use Rattle.history.specs.Runs.{Does}
+use Rattle.history.specs.Promise.{with_areas}
 use Rattle.cpp.specs.Sheet.{Sheet}
 use Rattle.cpp.specs.Heads.{name_of, repeated_in}
 use Rattle.cpp.specs.Cpp.{cpp}
@@ -107,3 +108,7 @@ module _ (book : State Frame) (c : Call cpp) where
   pub emptied_does : (book' : State Frame) (s : ℕ) → outcome cpp (working_signatures book) c ≡ Ok (emptied s) → book' ≡ working_after cpp book (emptied s) → Does cpp book c done book'
   unfolding working_told working_stepped
   emptied_does book' s e i = record { answered = sym (ap (working_told cpp book) e); left = i ∙ sym (ap (working_stepped cpp book) e) }
+
+-- the same where the areas were lent on the way, and came back as they were
+pub does_over : (book : State Frame) (fs : List Frame) (ks : List ℕ) → fs ≡ book.frames → ks ≡ book.column → (c : Call cpp) (r : Answer cpp) (book' : State Frame) → Does cpp (with_areas book fs ks) c r book' → Does cpp book c r book'
+does_over book fs ks p q c r book' d = subst₂ (λ f k. Does cpp (with_areas book f k) c r book') p q d

@@ -1,6 +1,6 @@
 -- One sheet's record and its parts of the areas replaced, and its callers marked: what put and clear leave.
-use Rattle.std.proofs.Common.{◌≡◌, ℕ, suc, ◌<◌, Bool, true, false, cond, ◌&&◌, eqb, List, map, length, get_or, set, replicate, Some, None, Option, sym, refl, ap, ◌∙◌, ap₂, inl, inr, arith}
-use Rattle.std.proofs.lemmas.Bool.{cond-true, cond-false, eq-eqb, ne_eqb, cases_eq, cases_lt, cases_Bool, and_parts, false≢true}
+use Rattle.std.proofs.Common.{◌≡◌, ℕ, suc, ◌<◌, Bool, true, false, cond, eqb, List, map, length, get_or, set, replicate, Some, None, Option, sym, refl, ap, ◌∙◌, ap₂, inl, inr, arith}
+use Rattle.std.proofs.lemmas.Bool.{cond-true, cond-false, eq-eqb, ne_eqb, cases_eq, cases_lt, cases_Bool, false≢true}
 use Rattle.std.proofs.lemmas.List.{length-map, length-set, get_or-set_same, get_or-set_other, get_or_past}
 use Rattle.std.proofs.lemmas.List.FromFn.{fill_by_all}
 use Rattle.syntax.specs.declared.frame.Frame.{Frame}
@@ -19,14 +19,14 @@ use Rattle.cpp.specs.Sheet.{Sheet}
 use Rattle.cpp.specs.Heads.{name_of, head_number}
 use Rattle.cpp.specs.Cpp.{cpp}
 use Rattle.records.specs.declared.record.Record.{Record}
-use Rattle.records.specs.Records.{empty, record_of, signatures_of, state_of, marked_record, clash}
+use Rattle.records.specs.Records.{record_of, signatures_of, state_of, marked_record, clash}
 use Rattle.records.specs.Sheets.{sheet_from}
-use Rattle.records.proofs.Rows.{row_at, filled_signature}
+use Rattle.records.proofs.Rows.{signed_by, signature_read, row_at}
 use Rattle.records.proofs.Marking.{marked_told}
 
-module _ (rs : List Record) (v : Bool) (f : List Frame) (k : List ℕ) (s : ℕ) (o w : Option (ℕ × ℕ)) (marks : List Record)
+module _ (rs : List (Option Record)) (v : Bool) (f : List Frame) (k : List ℕ) (s : ℕ) (o w : Option (ℕ × ℕ)) (marks : List (Option Record))
     (l : s < 32) (full : length marks ≡ 32) (old : o ≡ signatures_of rs s)
-    (was : (t : ℕ) → t < 32 → get_or marks t empty ≡ marked_record o w (part t f) (get_or rs t empty)) where
+    (was : (t : ℕ) → t < 32 → get_or marks t None ≡ marked_record o w (part t f) (get_or rs t None)) where
   -- the book before
   abbrev book : State Frame
   book = state_of rs v f k
@@ -34,34 +34,36 @@ module _ (rs : List Record) (v : Bool) (f : List Frame) (k : List ℕ) (s : ℕ)
   -- ## the name that is put
 
   -- a marked record has the old name
-  marked_clash : (t : ℕ) (r : Record) → t < 32 → clash (get_or marks t empty) r ≡ clash (get_or rs t empty) r
-  marked_clash t r m = ap (λ q. clash q r) (was t m)
+  marked_clash : (b : List Frame) (x r : Option Record) → clash (marked_record o w b x) r ≡ clash x r
+  marked_clash b None r = refl
+  marked_clash b (Some x) None = refl
+  marked_clash b (Some x) (Some r) = refl
 
-  -- a record that clashes has a head for the name
-  clash_headed : (t : ℕ) (r : Record) → clash (get_or rs t empty) r ≡ true → filled (head_for r.name (signatures_of rs t)) ≡ true
-  clash_headed t r e =
-      let a = and_parts (get_or rs t empty).filled (r.filled && eqb (get_or rs t empty).name r.name) e in
-      let b = and_parts r.filled (eqb (get_or rs t empty).name r.name) a.1 in
-      ap (λ q. filled (head_for r.name q)) (filled_signature rs t a.0) ∙ ap (λ q. filled (cond q (Some (get_or rs t empty).head) None)) b.1
+  -- a sheet that clashes has a head for the name
+  clash_headed : (x : Option Record) (r : Record) → clash x (Some r) ≡ true → filled (head_for r.signature.name (signed_by x)) ≡ true
+  clash_headed None r e = e
+  clash_headed (Some x) r e = ap (λ q. filled (cond q (Some x.signature.head) None)) e
 
-  -- a name that is not elsewhere clashes with no other record
-  pub free_apart : (r : Record) → false ≡ elsewhere cpp (signatures_of rs) s r.name → (t : ℕ) → (t ≡ s → ⊥) → clash (get_or marks t empty) r ≡ false
+  -- a name that is not elsewhere clashes with no other sheet
+  pub free_apart : (r : Record) → false ≡ elsewhere cpp (signatures_of rs) s r.signature.name → (t : ℕ) → (t ≡ s → ⊥) → clash (get_or marks t None) (Some r) ≡ false
   free_apart r free t ne =
       elim (cases_lt t 32) [
         | inl m ↦
-            marked_clash t r m
-            ∙ elim (cases_Bool (clash (get_or rs t empty) r)) [
+            ap (λ q. clash q (Some r)) (was t m)
+            ∙ marked_clash (part t f) (get_or rs t None) (Some r)
+            ∙ elim (cases_Bool (clash (get_or rs t None) (Some r))) [
               | inl y ↦
-                  let none = lowest_none_at 32 (λ u. head_for r.name (updated (signatures_of rs) s None u)) (filled_none _ (sym free)) t m in
-                  absurd (false≢true (sym (ap filled (ap (head_for r.name) (sym (updated_other (signatures_of rs) s None t ne)) ∙ none)) ∙ clash_headed t r y))
+                  let none = lowest_none_at 32 (λ u. head_for r.signature.name (updated (signatures_of rs) s None u)) (filled_none _ (sym free)) t m in
+                  let there = ap (λ q. filled (head_for r.signature.name q)) (signature_read rs t) ∙ clash_headed (get_or rs t None) r y in
+                  absurd (false≢true (sym (ap filled (ap (head_for r.signature.name) (sym (updated_other (signatures_of rs) s None t ne)) ∙ none)) ∙ there))
               | inr n ↦ n
             ]
-        | inr m ↦ ap (λ q. clash q r) (get_or_past marks t empty (omega arith))
+        | inr m ↦ ap (λ q. clash q (Some r)) (get_or_past marks t None (omega arith))
       ]
 
   -- ## the records
 
-  module _ (r : Record) where
+  module _ (r : Option Record) where
     -- the records in the law's words
     abbrev new_records : ℕ → Option working.Record
     new_records t = cond (eqb t s) (record_of r) (marked cpp (signatures_of rs s) w (part t f) (record_at book t))
@@ -71,10 +73,10 @@ module _ (rs : List Record) (v : Bool) (f : List Frame) (k : List ℕ) (s : ℕ)
         row_at (set marks s r) v f k t
         ∙ elim (cases_eq t s) [
           | inl i ↦
-              ap (λ u. record_of (get_or (set marks s r) u empty)) i ∙ ap record_of (get_or-set_same marks s r empty (omega arith))
+              ap (λ u. record_of (get_or (set marks s r) u None)) i ∙ ap record_of (get_or-set_same marks s r None (omega arith))
               ∙ sym (cond-true (eqb t s) (record_of r) (marked cpp (signatures_of rs s) w (part t f) (record_at book t)) (eq-eqb t s i))
           | inr n ↦
-              ap record_of (get_or-set_other marks s t r empty n ∙ was t m) ∙ marked_told o w (part t f) (get_or rs t empty)
+              ap record_of (get_or-set_other marks s t r None n ∙ was t m) ∙ marked_told o w (part t f) (get_or rs t None)
               ∙ ap₂ (λ q p. marked cpp q w (part t f) p) old (sym (row_at rs v f k t))
               ∙ sym (cond-false (eqb t s) (record_of r) (marked cpp (signatures_of rs s) w (part t f) (record_at book t)) (ne_eqb t s n))
         ]
@@ -94,9 +96,9 @@ module _ (rs : List Record) (v : Bool) (f : List Frame) (k : List ℕ) (s : ℕ)
 module _ (x : Formed) (n h e : ℕ) (named : n ≡ name_of (sheet_from x)) (headed : h ≡ head_number (sheet_from x)) (ends : suc e ≡ length (frames_of x)) where
   -- the record that put writes
   abbrev pub put_record : Record
-  put_record = record { filled = true; name = n; head = h; end = e; due = true; kept = Valid }
+  put_record = record { signature = record { name = n; head = h }; end = e; due = true; kept = Valid }
 
-  pub put_record_told : record_of put_record ≡ Some (new_record cpp (sheet_from x))
+  pub put_record_told : record_of (Some put_record) ≡ Some (new_record cpp (sheet_from x))
   put_record_told = λ i. Some (record { name = named i; head = headed i; size = ends i; kept = None; due = true })
 
   pub put_signature : ◌≡◌ {A = Option (ℕ × ℕ)} (Some (n, h)) (Some (signature cpp (sheet_from x)))

@@ -20,6 +20,14 @@ module _ {X : Type 0} (d : X) (f : ℕ → X → X) (old : List X) where
   pub updated_below : (t : ℕ) (new : List X) → UpdatedTo t new → (k : ℕ) → k < t → get_or new k d ≡ f k (get_or old k d)
   updated_below t new u k l = u k ∙ cond-true (ltb k t) (f k (get_or old k d)) (get_or old k d) (lt-ltb k t l)
 
+  -- what f leaves of each sheet stays
+  pub updated_kept : {Y : Type 0} (g : X → Y) → ((t : ℕ) (x : X) → g (f t x) ≡ g x) → (t : ℕ) (new : List X) → UpdatedTo t new → (k : ℕ) → g (get_or new k d) ≡ g (get_or old k d)
+  updated_kept g kept t new u k =
+      elim (cases_lt k t) [
+        | inl l ↦ ap g (updated_below t new u k l) ∙ kept k (get_or old k d)
+        | inr l ↦ ap g (updated_past t new u k l)
+      ]
+
   -- one sheet more, from what holds of it and of the others
   updated_from : (t : ℕ) (new new' : List X) → UpdatedTo t new → get_or new' t d ≡ f t (get_or old t d) → ((k : ℕ) → (k ≡ t → ⊥) → get_or new' k d ≡ get_or new k d) → UpdatedTo (t + 1) new'
   updated_from t new new' u here there k =

@@ -1,5 +1,7 @@
 -- What the calls answer, in the law's words.
-use Rattle.std.specs.Prelude.{Some, None, Ok, Err, Option, Result}
+use Rattle.std.specs.Prelude.{ℕ, Some, None, Ok, Err, Option, Result}
+use Rattle.syntax.specs.declared.frame.«Type».{«Type» as Ty}
+use Rattle.syntax.specs.Writing.{type_code}
 use Rattle.history.specs.Words.{map_some}
 use Rattle.history.specs.Language.{Fault as Numbered}
 use Rattle.history.specs.Calls.{Answer, Answer.refused, Answer.done, Answer.checked}
@@ -19,12 +21,12 @@ module _ {A : Type 0} where
   edited (Ok a) = done
   edited (Err e) = refused (told e)
 
-  -- of a question: the answer, or the refusal
-  abbrev pub asked_of : Result A Fault → Result A Numbered
-  asked_of (Ok a) = Ok a
-  asked_of (Err e) = Err (told e)
-
 -- of a check: the number walked and the fault if there is one, or refused
 abbrev pub checked_of : Result Checked Fault → Answer cpp
 checked_of (Ok c) = checked c.walked (map_some told c.fault)
 checked_of (Err e) = refused (told e)
+
+-- of a question: the number of the type, if there is one, or the refusal
+abbrev pub asked_of : Result (Option Ty) Fault → Result (Option ℕ) Numbered
+asked_of (Ok o) = Ok (map_some type_code o)
+asked_of (Err e) = Err (told e)

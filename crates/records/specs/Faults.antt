@@ -1,5 +1,5 @@
 -- What each fault of the book stands for: its number, layer, sheet and place.
-use Rattle.std.specs.Prelude.{ℕ}
+use Rattle.std.specs.Prelude.{ℕ, unwrap_or}
 use Rattle.syntax.specs.declared.fault.Diagnostic.{Diagnostic}
 use Rattle.syntax.specs.Faults as lower
 use Rattle.rules.specs.Faults as rule
@@ -37,7 +37,7 @@ layer (Broken v s p) = 4
 abbrev pub sheet : Fault → ℕ
 sheet (Posted e s) = s
 sheet (NoSheet s) = s
-sheet (OtherLength s) = s
+sheet (OtherLength s) = unwrap_or s 255
 sheet (NameTaken s) = s
 sheet (RepeatedParameter s p) = s
 sheet (EmptySheet s) = s

@@ -7,7 +7,8 @@ pub enum Fault {
     // a fault of reading or of form, in what was posted on the sheet
     Posted(syntax::Fault, u8),
     NoSheet(u8),
-    OtherLength(u8),
+    // with the sheet, where the call names one
+    OtherLength(Option<u8>),
     NameTaken(u8),
     RepeatedParameter(u8, usize),
     EmptySheet(u8),

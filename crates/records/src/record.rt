@@ -1,18 +1,13 @@
 // The record of a sheet.
+ghost use Rattle.std.specs.Prelude.{◌≡◌, Some};
+ghost use Rattle.history.specs.Words.{map_some};
+ghost use Rattle.history.specs.Language.{fault_on};
+ghost use Rattle.records.specs.Faults.{told};
+ghost use Rattle.records.specs.Records.{kept_of};
+
+use crate::fault::Fault;
 use levels::search::Named;
 use walk::Verdict;
-
-// What the book keeps of a sheet: whether it is filled, and of its last put the name, the packed head and the place of END;
-// whether it is due, and the verdict of its last walk.
-#[derive(Clone, Copy)]
-pub struct Record {
-    pub filled: bool,
-    pub name: u16,
-    pub head: u64,
-    pub end: u8,
-    pub due: bool,
-    pub kept: Verdict,
-}
 
 // The name and the packed head of a sheet.
 #[derive(Clone, Copy)]
@@ -21,10 +16,33 @@ pub struct Signature {
     pub head: u64,
 }
 
-impl Named for Record {
-    ghost label = { λ r. r.name };
+// What the book keeps of a filled sheet: of its last put the name with the packed head and the place of END; whether it is due,
+// and the verdict of its last walk.
+#[derive(Clone, Copy)]
+pub struct Record {
+    pub signature: Signature,
+    pub end: u8,
+    pub due: bool,
+    pub kept: Verdict,
+}
 
-    fn name(&self) -> u16 {
-        self.name
+impl Record {
+    // The fault that the verdict kept tells of the sheet.
+    pub fn fault(&self, sheet: u8) -> Option<Fault>
+        ensures { map_some told result ≡ fault_on sheet (kept_of self.now.kept) }
+    {
+        match self.kept {
+            Verdict::Valid => None,
+            Verdict::Broken(violation, place) => Some(Fault::Broken(violation, sheet, place)),
+            Verdict::Altered => Some(Fault::Altered(sheet)),
+        }
+    }
+}
+
+impl Named for Record {
+    ghost label = { λ r. Some r.signature.name };
+
+    fn name(&self) -> Option<u16> {
+        Some(self.signature.name)
     }
 }

@@ -9,7 +9,7 @@ ghost use Rattle.records.specs.Answers.{checked_of};
 ghost use Rattle.book.specs.States.{state, HeadsLeft, VariablesLeft};
 
 use super::Book;
-use crate::numbers::{AREA, NO_SHEET, ROOM};
+use crate::numbers::ROOM;
 use levels::store::{Declaring, Looking};
 use records::{Checked, Fault};
 use syntax::Frame;
@@ -29,9 +29,12 @@ impl Book {
         ensures history { Promise cpp (state self.old frames.now column.old) (check (length frames.now) (length column.old) (H.Looking.meaning heads.old).capacity (S.Looking.meaning variables.old).capacity) (checked_of result) (state self.new frames.now column.new) }
         ensures law { Law cpp }
     {
-        if frames.len() != AREA || column.len() != AREA {
-            return Err(Fault::OtherLength(NO_SHEET));
-        }
+        let Some(frames) = frames.as_array() else {
+            return Err(Fault::OtherLength(None));
+        };
+        let Some(column) = column.as_mut_array() else {
+            return Err(Fault::OtherLength(None));
+        };
         if heads.capacity() < ROOM || variables.capacity() < ROOM {
             return Err(Fault::SmallStore);
         }

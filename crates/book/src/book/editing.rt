@@ -14,10 +14,9 @@ ghost use Rattle.records.specs.Sheets.{sheet_from};
 ghost use Rattle.book.specs.States.{state};
 
 use super::Book;
-use crate::areas::{fill, fill_part, write_part};
-use crate::numbers::{AREA, BLANK, LAST, NO_SHEET};
+use crate::areas::{AREA, write_part};
+use crate::sheet::Sheet;
 use crate::table::Table;
-use crate::table::rows::EMPTY;
 use frames::{Formed, form, read};
 use records::{Fault, Record, Signature};
 use syntax::Frame;
@@ -40,13 +39,15 @@ impl Book {
         ensures does { Freshens cpp (state self.old frames.old column.old) (refusal_of result) (state self.new frames.new column.new) }
         ensures history { FreshMade cpp (state self.old frames.old column.old) (refusal_of result) (state self.new frames.new column.new) }
     {
-        if frames.len() != AREA || column.len() != AREA {
-            return Err(Fault::OtherLength(NO_SHEET));
-        }
-        fill(frames, BLANK);
-        fill(column, 0);
-        self.table = Table::new();
-        self.valid = false;
+        let Some(frames) = frames.as_mut_array::<AREA>() else {
+            return Err(Fault::OtherLength(None));
+        };
+        let Some(column) = column.as_mut_array::<AREA>() else {
+            return Err(Fault::OtherLength(None));
+        };
+        frames.fill(Frame::BLANK);
+        column.fill(0);
+        *self = Book::new();
         Ok(())
     }
 
@@ -61,13 +62,13 @@ impl Book {
         ensures does { Does cpp (state self.old frames.old column.old) (put sheet (sheet_from formed.now) (length frames.old) (length column.old)) (edited result) (state self.new frames.new column.new) }
         ensures history { Promise cpp (state self.old frames.old column.old) (put sheet (sheet_from formed.now) (length frames.old) (length column.old)) (edited result) (state self.new frames.new column.new) }
     {
-        if sheet > LAST {
-            return Err(Fault::NoSheet(sheet));
-        }
-        if frames.len() != AREA || column.len() != AREA {
-            return Err(Fault::OtherLength(sheet));
-        }
-        let k = sheet as usize;
+        let k = Sheet::try_from(sheet)?;
+        let Some(frames) = frames.as_mut_array() else {
+            return Err(Fault::OtherLength(Some(sheet)));
+        };
+        let Some(column) = column.as_mut_array() else {
+            return Err(Fault::OtherLength(Some(sheet)));
+        };
         let name = formed.name();
         if self.table.named_elsewhere(k, name) {
             return Err(Fault::NameTaken(sheet));
@@ -76,22 +77,20 @@ impl Book {
             return Err(Fault::RepeatedParameter(sheet, place));
         }
         let head = head_of(formed);
+        let signature = Signature { name, head };
         let old = self.table.signature(k);
-        self.table.mark(frames, old, Some(Signature { name, head }));
-        self.table.replace(
-            k,
-            Record {
-                filled: true,
-                name,
-                head,
-                end: (formed.count() - 1) as u8,
-                due: true,
-                kept: Verdict::Valid,
-            },
-        );
+        self.table.mark(frames, old, Some(signature));
+        let end = (formed.count() - 1) as u8;
+        let record = Record {
+            signature,
+            end,
+            due: true,
+            kept: Verdict::Valid,
+        };
+        self.table.replace(k, Some(record));
         self.valid = false;
         write_part(frames, k, formed.sheet());
-        fill_part(column, k, 0);
+        write_part(column, k, &[0; 256]);
         Ok(())
     }
 
@@ -100,22 +99,22 @@ impl Book {
         ensures does { Does cpp (state self.old frames.old column.old) (clear sheet (length frames.old) (length column.old)) (edited result) (state self.new frames.new column.new) }
         ensures history { Promise cpp (state self.old frames.old column.old) (clear sheet (length frames.old) (length column.old)) (edited result) (state self.new frames.new column.new) }
     {
-        if sheet > LAST {
-            return Err(Fault::NoSheet(sheet));
-        }
-        if frames.len() != AREA || column.len() != AREA {
-            return Err(Fault::OtherLength(sheet));
-        }
-        let k = sheet as usize;
+        let k = Sheet::try_from(sheet)?;
+        let Some(frames) = frames.as_mut_array() else {
+            return Err(Fault::OtherLength(Some(sheet)));
+        };
+        let Some(column) = column.as_mut_array() else {
+            return Err(Fault::OtherLength(Some(sheet)));
+        };
         let old = self.table.signature(k);
         if old.is_none() {
             return Err(Fault::EmptySheet(sheet));
         }
         self.table.mark(frames, old, None);
-        self.table.replace(k, EMPTY);
+        self.table.replace(k, None);
         self.valid = false;
-        fill_part(frames, k, BLANK);
-        fill_part(column, k, 0);
+        write_part(frames, k, &[Frame::BLANK; 256]);
+        write_part(column, k, &[0; 256]);
         Ok(())
     }
 
@@ -132,14 +131,10 @@ impl Book {
         ensures leaves { room.new ≡ filled_with (lines_read (length room.old) text.now).0 room.old }
         ensures history { Promise cpp (state self.old frames.old column.old) (post sheet text.now (length room.old) (length frames.old) (length column.old)) (edited result) (state self.new frames.new column.new) }
     {
-        let count = match read(text, room) {
-            Ok(count) => count,
-            Err(fault) => return Err(Fault::Posted(fault, sheet)),
-        };
+        let posted = |fault| Fault::Posted(fault, sheet);
+        let count = read(text, room).map_err(posted)?;
         let mut formed = Formed::new();
-        if let Err(fault) = form(&room[0..count], &mut formed) {
-            return Err(Fault::Posted(fault, sheet));
-        }
+        form(&room[..count], &mut formed).map_err(posted)?;
         self.put(sheet, &formed, frames, column)
     }
 }

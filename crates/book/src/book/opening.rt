@@ -7,7 +7,6 @@ ghost use Rattle.records.specs.Answers.{refusal_of};
 ghost use Rattle.book.specs.States.{state};
 
 use super::Book;
-use crate::numbers::{AREA, NO_SHEET};
 use crate::reader::Reader;
 use records::Fault;
 use syntax::Frame;
@@ -19,9 +18,12 @@ impl Book {
         ensures lends { elim result [ Ok q ↦ (q.table.now ≡ self.now.table) × (q.frames.now ≡ frames.now) × (q.column.now ≡ column.now) | Err e ↦ Unit {0} ] }
         ensures history { ReaderPromise cpp (state self.now frames.now column.now) (length frames.now) (length column.now) (refusal_of result) }
     {
-        if frames.len() != AREA || column.len() != AREA {
-            return Err(Fault::OtherLength(NO_SHEET));
-        }
+        let Some(frames) = frames.as_array() else {
+            return Err(Fault::OtherLength(None));
+        };
+        let Some(column) = column.as_array() else {
+            return Err(Fault::OtherLength(None));
+        };
         if !self.valid {
             return Err(Fault::NotValid);
         }

@@ -1,11 +1,12 @@
 // The marks on the callers of a name whose head changes.
-ghost use Rattle.std.specs.Prelude.{◌≡◌, ℕ, ◌<◌, length, slice_index_or};
+ghost use Rattle.std.specs.Prelude.{◌≡◌, ◌==◌, ℕ, ◌&&◌, ◌<◌, None, slice_index_or};
 ghost use Rattle.history.specs.Language.{head_for, differ};
 ghost use Rattle.history.specs.Areas.{part};
-ghost use Rattle.records.specs.Records.{empty, signed, calls_changed, marked_record};
+ghost use Rattle.records.specs.Records.{signed, calls_changed, marked_record};
 
 use super::Table;
-use crate::areas::own_frames;
+use crate::areas::{Frames, own_frames};
+use crate::sheet::Sheet;
 use records::Signature;
 use syntax::Frame;
 
@@ -22,35 +23,30 @@ fn head_for(name: u16, signature: Option<Signature>) -> Option<u64>
     }
 }
 
-// Whether a head is another one, there no more, or there for the first time.
-fn differs(old: Option<u64>, new: Option<u64>) -> bool
-    ensures { result ≡ differ old new }
+// Whether the frame calls a name to which the new signature gives another head than the old, or none, or its first.
+fn calls_another(frame: Frame, old: Option<Signature>, new: Option<Signature>) -> bool
+    ensures { result ≡ (frame.kind == CALL && differ (head_for frame.name (signed old)) (head_for frame.name (signed new))) }
 {
-    old != new
+    frame.kind == CALL && head_for(frame.name, old) != head_for(frame.name, new)
 }
 
-// Whether the frames call a name to which the new signature gives another head than the old, or none, or its first.
+// Whether any of the frames calls such a name.
 fn calls_changed(frames: &[Frame], old: Option<Signature>, new: Option<Signature>) -> bool
     ensures { result ≡ calls_changed (signed old) (signed new) frames.now }
 {
-    for frame in frames {
-        if frame.kind == CALL && differs(head_for(frame.name, old), head_for(frame.name, new)) {
-            return true;
-        }
-    }
-    false
+    frames.iter().any(|f| calls_another(*f, old, new))
 }
 
 impl Table {
     // Marks each filled sheet whose frames call a name that the change of one sheet's signature gives another head.
-    pub(crate) fn mark(&mut self, frames: &[Frame], old: Option<Signature>, new: Option<Signature>)
-        requires { length frames.now ≡ 8192 }
-        ensures { (t : ℕ) → t < 32 → slice_index_or self.new.records t empty ≡ marked_record (signed old) (signed new) (part t frames.now) (slice_index_or self.old.records t empty) }
+    pub(crate) fn mark(&mut self, frames: &Frames, old: Option<Signature>, new: Option<Signature>)
+        ensures { (t : ℕ) → t < 32 → slice_index_or self.new.records t None ≡ marked_record (signed old) (signed new) (part t frames.now) (slice_index_or self.old.records t None) }
     {
-        for t in 0..32 {
-            let record = self.at(t);
-            if record.filled && calls_changed(own_frames(frames, t, record.end), old, new) {
-                self.renew(t, record.kept, true);
+        for (t, slot) in self.records.iter_mut().enumerate() {
+            if let Some(record) = slot {
+                if calls_changed(own_frames(frames, Sheet::at(t), record.end), old, new) {
+                    record.due = true;
+                }
             }
         }
     }

@@ -1,5 +1,5 @@
 // The walk of the sheets that are due.
-ghost use Rattle.std.specs.Prelude.{◌≡◌, ℕ, ◌<◌, ◌≤◌, true, false, [], ◌∷◌, length, slice_index_or};
+ghost use Rattle.std.specs.Prelude.{◌≡◌, ℕ, ◌<◌, ◌≤◌, None, true, false, [], ◌∷◌, slice_index_or};
 ghost use Rattle.levels.specs.Store.{with_levels};
 ghost use Rattle.history.specs.Words.{lowest, count_below, map_some};
 ghost use Rattle.history.specs.Language.{Heads, heads_of};
@@ -7,35 +7,34 @@ ghost use Rattle.history.specs.Areas.{part, rewritten};
 ghost use Rattle.history.specs.Working.{record_at, due_flag, kept_fault, checked_record, checked_column};
 ghost use Rattle.cpp.specs.Cpp.{cpp};
 ghost use Rattle.records.specs.Faults.{told};
-ghost use Rattle.records.specs.Records.{empty, record_of, signatures_of, state_of};
+ghost use Rattle.records.specs.Records.{record_of, signatures_of, state_of};
 ghost use Rattle.records.specs.Stores.{heads_below, variables_left};
 ghost use Rattle.records.specs.Walks.{Held, SheetWalked};
 
 use super::Table;
-use crate::areas::own_frames;
+use crate::areas::{Column, Frames, own_frames};
+use crate::sheet::Sheet;
 use levels::store::{Declaring, Looking};
-use records::{Fault, Record};
-use syntax::Frame;
+use records::{Fault, Record, Signature};
 use walk::{Verdict, examine};
 
 // Walks one sheet: its types into its part of the column, or the first violation, or that its frames were altered.
 fn walk_sheet<H: Looking<u64>, S: Declaring<u8>>(
     row: Record,
-    sheet: usize,
-    frames: &[Frame],
-    column: &mut [u8],
+    sheet: Sheet,
+    frames: &Frames,
+    column: &mut Column,
     heads: &H,
     variables: &mut S,
 ) -> Verdict
-    requires sheet { sheet < 32 }
-    requires frames { length frames.now ≡ 8192 }
-    requires column { length column.old ≡ 8192 }
-    requires room { 256 ≤ (S.Looking.meaning variables.old).capacity }
-    ensures { (h : Heads) → Held h (H.Looking.meaning heads.now).levels → SheetWalked h (part sheet frames.now) sheet row result column.old column.new (S.Looking.meaning variables.old) (S.Looking.meaning variables.new) }
+    requires { 256 ≤ (S.Looking.meaning variables.old).capacity }
+    ensures { (h : Heads) → Held h (H.Looking.meaning heads.now).levels → SheetWalked h (part sheet.number frames.now) sheet.number row result column.old column.new (S.Looking.meaning variables.old) (S.Looking.meaning variables.new) }
 {
     let own = own_frames(frames, sheet, row.end);
-    let types = &mut column[256 * sheet..256 * sheet + 256];
-    examine(own, row.name, row.head, types, heads, variables).unwrap()
+    let column = &mut column[..];
+    let types = &mut column[sheet.range()];
+    let Signature { name, head } = row.signature;
+    examine(own, name, head, types, heads, variables).unwrap()
 }
 
 impl Table {
@@ -46,10 +45,10 @@ impl Table {
     {
         heads.wipe();
         heads.enter().unwrap();
-        for t in 0..32 {
-            let row = self.at(t);
-            if row.filled {
-                heads.declare(row.name, row.head).unwrap();
+        for slot in &self.records {
+            if let Some(record) = slot {
+                let Signature { name, head } = record.signature;
+                heads.declare(name, head).unwrap();
             }
         }
     }
@@ -57,27 +56,33 @@ impl Table {
     // Walks each sheet that is due, in rising order, and answers how many there were.
     pub(crate) fn walk_due<H: Looking<u64>, S: Declaring<u8>>(
         &mut self,
-        frames: &[Frame],
-        column: &mut [u8],
+        frames: &Frames,
+        column: &mut Column,
         heads: &H,
         variables: &mut S,
     ) -> usize
-        requires frames { length frames.now ≡ 8192 }
-        requires column { length column.old ≡ 8192 }
         requires room { 256 ≤ (S.Looking.meaning variables.old).capacity }
         requires held { Held (heads_of (signatures_of self.old.records)) (H.Looking.meaning heads.now).levels }
         ensures result { result ≡ count_below 32 (λ t. due_flag (record_at (state_of self.old.records false frames.now column.old) t)) }
-        ensures records { (t : ℕ) → t < 32 → record_of (slice_index_or self.new.records t empty) ≡ checked_record cpp (state_of self.old.records false frames.now column.old) t }
+        ensures records { (t : ℕ) → t < 32 → record_of (slice_index_or self.new.records t None) ≡ checked_record cpp (state_of self.old.records false frames.now column.old) t }
         ensures column { column.new ≡ rewritten 32 (λ t. due_flag (record_at (state_of self.old.records false frames.now column.old) t)) (checked_column cpp (state_of self.old.records false frames.now column.old)) column.old }
         ensures variables { S.Looking.meaning variables.new ≡ variables_left (state_of self.old.records false frames.now column.old) (S.Looking.meaning variables.old) }
     {
         let mut walked = 0;
-        for t in 0..32 {
-            let record = self.at(t);
-            if record.filled && record.due {
-                let verdict = walk_sheet(record, t, frames, column, heads, variables);
-                self.renew(t, verdict, false);
-                walked += 1;
+        for (t, slot) in self.records.iter_mut().enumerate() {
+            if let Some(record) = slot {
+                if record.due {
+                    record.kept = walk_sheet(
+                        *record,
+                        Sheet::at(t),
+                        frames,
+                        column,
+                        heads,
+                        variables,
+                    );
+                    record.due = false;
+                    walked += 1;
+                }
             }
         }
         walked
@@ -85,17 +90,13 @@ impl Table {
 
     // The fault of the lowest faulty sheet, by the verdicts kept.
     pub(crate) fn lowest_fault(&self) -> Option<Fault>
-        ensures { map_some told result ≡ lowest 32 (λ t. kept_fault t (record_of (slice_index_or self.now.records t empty))) }
+        ensures { map_some told result ≡ lowest 32 (λ t. kept_fault t (record_of (slice_index_or self.now.records t None))) }
     {
-        for t in 0..32 {
-            let record = self.at(t);
-            if record.filled {
-                match record.kept {
-                    Verdict::Valid => {}
-                    Verdict::Broken(violation, place) => {
-                        return Some(Fault::Broken(violation, t as u8, place));
-                    }
-                    Verdict::Altered => return Some(Fault::Altered(t as u8)),
+        for (t, slot) in self.records.iter().enumerate() {
+            if let Some(record) = slot {
+                let fault = record.fault(t as u8);
+                if fault.is_some() {
+                    return fault;
                 }
             }
         }

@@ -5,5 +5,5 @@ use Rattle.records.specs.Records.{signatures_of}
 use Rattle.records.specs.Stores.{heads_below}
 use Rattle.book.proofs.table.Table.declare_heads.Given as goal
 
-abbrev pub invariant-loop-t : goal.invariant-loop-t
-invariant-loop-t g l = g.H.Looking.meaning l.heads ≡ with_levels (g.H.Looking.meaning l.initial.heads) (heads_below l.t (signatures_of l.self.records) ∷ [])
+abbrev pub invariant-loop-slot : goal.invariant-loop-slot
+invariant-loop-slot g l = g.H.Looking.meaning l.heads ≡ with_levels (g.H.Looking.meaning l.initial.heads) (heads_below l.slot-index (signatures_of l.fn.self.records) ∷ [])

@@ -1,24 +1,17 @@
-use Rattle.std.proofs.Common.{sym, ◌∙◌, ap₂}
-use Rattle.history.specs.Language.{differ}
+-- Any frame that calls a changed name is what the chain asks.
+use Rattle.std.proofs.Common.{◌&&◌, eqb, rules, tests, ◌∙◌}
+use Rattle.std.proofs.lemmas.Iterator.{YieldsList-from_slice}
+use Rattle.std.proofs.lemmas.Iterator.Search.{any_from_yields_List}
+use Rattle.syntax.specs.declared.frame.Frame.{Frame}
+use Rattle.history.specs.Language.{head_for, differ}
 use Rattle.records.specs.Records.{signed}
-use Rattle.records.proofs.Marking.{call_decides, call_passed, other_passed, none_met}
+use Rattle.records.proofs.Marking.{calls_any}
 use Rattle.book.proofs.table.marking.calls_changed.Goals as goal
-use Rattle.book.proofs.table.marking.calls_changed.Goals.{else-frame-eq-CALL-via-then-frame-eq-CALL+else-differs, else-frame-eq-CALL-via-else-frame-eq-CALL}
-
-pub returns-then-differs : goal.returns-then-differs
-returns-then-differs c =
-    call_decides (signed c.args.old) (signed c.args.new) c.args.frames.now c.loop-frame.frame-index _ c.loop-frame-test.true c.if-frame-eq-CALL.true
-    (ap₂ differ (sym c.head_for.ensures) (sym c.head_for-then-frame-eq-CALL.ensures) ∙ sym c.differs.ensures ∙ c.if-differs.true) c.loop-frame.invariant
-
-pub loop-frame-preserved : goal.loop-frame-preserved
-loop-frame-preserved c =
-    elim c.else-frame-eq-CALL.branch [
-      | else-frame-eq-CALL-via-then-frame-eq-CALL+else-differs w ↦
-          call_passed (signed c.args.old) (signed c.args.new) c.args.frames.now c.loop-frame.frame-index _ c.loop-frame-test.true w.if-frame-eq-CALL.true
-          (ap₂ differ (sym w.head_for.ensures) (sym w.head_for-then-frame-eq-CALL.ensures) ∙ sym w.differs.ensures ∙ w.if-differs.false) c.loop-frame.invariant
-      | else-frame-eq-CALL-via-else-frame-eq-CALL w ↦
-          other_passed (signed c.args.old) (signed c.args.new) c.args.frames.now c.loop-frame.frame-index _ c.loop-frame-test.true w.if-frame-eq-CALL.false c.loop-frame.invariant
-    ]
 
 pub returns : goal.returns
-returns c = none_met (signed c.args.old) (signed c.args.new) c.args.frames.now c.loop-frame.frame-index c.loop-frame-test.false c.loop-frame.invariant
+returns c =
+    let o = signed c.args.old in
+    let w = signed c.args.new in
+    any_from_yields_List (λ (f : Frame). eqb f.kind 0x26 && differ (head_for f.name o) (head_for f.name w)) _ _ _ c.any.ensures.ran
+    (YieldsList-from_slice c.args.frames.now cc) (λ x b q k. search (rules, tests))
+    ∙ calls_any o w c.args.frames.now
