@@ -72,6 +72,11 @@ abbrev pub Within : ℕ → Option Declaration → Type 0
 Within i None = Unit {0}
 Within i (Some d) = d.first ≤ i
 
+-- what holds after each frame: the store's capacity is as it was, and the names of a declaration began no later than the next place
+pub record Onward (p : Place) (old new : Store ℕ) (m : Machine) : Type 0 where
+  pub capacity : new.capacity ≡ old.capacity
+  pub within : Within (p.i + 1) m.pending
+
 -- what the form of the sheet gives at a frame: no call on a store or a stack is refused
 pub record Ready (cap : ℕ) (i : ℕ) (f : Frame) (os : List ℕ) (ls : List Numbers) (u : List Unfinished) (p : Option Declaration) : Type 0 where
   pub enters : f.kind ≤ 0x01 → length ls < 33

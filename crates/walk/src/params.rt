@@ -13,6 +13,7 @@ use levels::search::newest;
 use syntax::Frame;
 
 // The PARAM frames of a formed sheet.
+#[tactic(auto, using(syntax::proofs::Heads::params_end))]
 fn parameters(sheet: &Formed) -> &[Frame]
     ensures { result.now ≡ param_frames (frames_of sheet.now) }
 {

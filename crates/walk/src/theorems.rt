@@ -2,6 +2,7 @@
 ghost use Rattle.walk.specs.Recorded.{RecordDecides};
 
 // Frames count as altered exactly where they are no sheet with the given name and head, or have a parameter twice.
+#[tactic(auto, using(crate::proofs::Recording::record_decides))]
 pub fn record_decides()
     ensures law { RecordDecides }
 {}

@@ -21,11 +21,11 @@ fn used<V>(value: V) -> Entry<V> {
     Entry {
         name: 7,
         value,
-        next: 9,
+        next: Some(9),
     }
 }
 
-// The number of an answer, and its place: 0 for a valid sheet, 38 for an altered one, 1 and 2 for a refusal.
+// The number of an answer, and its place: 0 for a valid sheet, 38 for an altered one, 1 and 2 for a refusal. The cases give numbers, as the documents do.
 pub fn told(answer: Result<Verdict, Refusal>) -> (usize, usize) {
     match answer {
         Ok(Verdict::Valid) => (0, 0),
@@ -36,15 +36,27 @@ pub fn told(answer: Result<Verdict, Refusal>) -> (usize, usize) {
     }
 }
 
-// Examines the sheet as the one of that name and head, with its head alone to call, and piles.
+// Examines the sheet as the one of that name and head, with its head alone to call.
+fn examined<H: Declaring<u64>, S: Declaring<u8>>(
+    frames: &[Frame],
+    name: u16,
+    head: u64,
+    column: &mut [u8],
+    heads: &mut H,
+    variables: &mut S,
+) -> (usize, usize) {
+    let _ = heads.enter();
+    let _ = heads.declare(name, head);
+    told(examine(frames, name, head, column, heads, variables))
+}
+
+// The same with piles.
 pub fn piled(frames: &[Frame], name: u16, head: u64, column: &mut [u8]) -> (usize, usize) {
     let mut room = [used(3u8); 256];
     let mut shelf = [used(5u64); 32];
     let mut variables = Pile::new(&mut room);
     let mut heads = Pile::new(&mut shelf);
-    let _ = heads.enter();
-    let _ = heads.declare(name, head);
-    told(examine(frames, name, head, column, &heads, &mut variables))
+    examined(frames, name, head, column, &mut heads, &mut variables)
 }
 
 // The same with chains.
@@ -53,25 +65,13 @@ pub fn chained(frames: &[Frame], name: u16, head: u64, column: &mut [u8]) -> (us
     let mut shelf = [used(5u64); 32];
     let mut variables = Chains::new(&mut room);
     let mut heads = Chains::new(&mut shelf);
-    let _ = heads.enter();
-    let _ = heads.declare(name, head);
-    told(examine(frames, name, head, column, &heads, &mut variables))
+    examined(frames, name, head, column, &mut heads, &mut variables)
 }
 
-// Both stores give the same answer and column.
+// The answer and the column that both stores give, if they give the same.
 pub fn both(frames: &[Frame], name: u16, head: u64, column: &mut [u8]) -> Option<(usize, usize)> {
     let mut other = [8u8; 256];
     let a = piled(frames, name, head, column);
     let b = chained(frames, name, head, &mut other);
-    if column.len() == 256 {
-        for i in 0..256 {
-            if column[i] != other[i] {
-                return None;
-            }
-        }
-    }
-    if a.0 != b.0 || a.1 != b.1 {
-        return None;
-    }
-    Some(a)
+    (a == b && &*column == other.as_slice()).then_some(a)
 }

@@ -26,13 +26,9 @@ fn plus_one() -> [Frame; 7] {
 
 // Whether the column begins with these numbers and has 0 after them.
 fn has(column: &[u8], types: &[u8]) -> bool {
-    for i in 0..column.len() {
-        let t = if i < types.len() { types[i] } else { 0 };
-        if column[i] != t {
-            return false;
-        }
-    }
-    true
+    column
+        .strip_prefix(types)
+        .is_some_and(|rest| rest.iter().all(|&t| t == 0))
 }
 
 #[test]
@@ -92,12 +88,12 @@ fn refused(rt: HostRuntime) {
     let mut room = [Entry {
         name: 0,
         value: 0u8,
-        next: 0,
+        next: None,
     }; 255];
     let mut shelf = [Entry {
         name: 0,
         value: 0u64,
-        next: 0,
+        next: None,
     }; 2];
     let mut variables = Pile::new(&mut room);
     let heads = Pile::new(&mut shelf);

@@ -1,10 +1,10 @@
 // What a walk does with a name that is declared.
-ghost use Rattle.std.specs.Prelude.{◌≡◌, ◌+◌, ◌<◌, false, ◌||◌, length};
+ghost use Rattle.std.specs.Prelude.{◌≡◌, ◌<◌, false, ◌||◌, length};
 ghost use Rattle.levels.specs.Store.{stands, with_levels};
 ghost use Rattle.rules.specs.Judge.{among};
 ghost use Rattle.rules.specs.Walk.{alone};
 ghost use Rattle.walk.specs.Step.{kept, named, initial, state, idle};
-ghost use Rattle.walk.specs.Machines.{awaited, pending_of, coming_at, after, unkept, Does, Room, Awaits, Within};
+ghost use Rattle.walk.specs.Machines.{awaited, pending_of, coming_at, after, unkept, Does, Room, Awaits, Onward};
 
 use super::{Declaration, Machine};
 use crate::place::Place;
@@ -56,8 +56,7 @@ impl Machine {
         requires awaits { Awaits place.now.i self.old.pending }
         requires room { Room (S.Looking.meaning variables.old) }
         ensures does { Does (named self.old.operands (S.Looking.meaning variables.old).levels self.old.things place.now.frame.name (coming_at place.now.i self.old.things self.old.pending place.now.frames.now)) (S.Looking.meaning variables.old).levels (after place.now self.new (S.Looking.meaning variables.new)) result }
-        ensures capacity { (S.Looking.meaning variables.new).capacity ≡ (S.Looking.meaning variables.old).capacity }
-        ensures within { Within (place.now.i + 1) self.new.pending }
+        ensures onward { Onward place.now (S.Looking.meaning variables.old) (S.Looking.meaning variables.new) self.new }
     {
         let Some(declaration) = self.pending else {
             unreachable();

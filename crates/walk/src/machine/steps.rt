@@ -1,8 +1,8 @@
 // What a walk does with a frame.
-ghost use Rattle.std.specs.Prelude.{◌≡◌, ◌+◌, ◌<◌, [], None};
+ghost use Rattle.std.specs.Prelude.{◌≡◌, ◌<◌, [], None};
 ghost use Rattle.syntax.specs.Heads.{head};
 ghost use Rattle.walk.specs.Step.{stated, governed, stepped};
-ghost use Rattle.walk.specs.Machines.{before, after, Does, Within, Steps, IsReady};
+ghost use Rattle.walk.specs.Machines.{before, after, Does, Onward, Steps, IsReady};
 
 use super::{Declaration, Machine};
 use crate::codes::{BOOL, VOID};
@@ -38,8 +38,7 @@ impl Machine {
     ) -> Result<u8, Violation>
         requires ready { IsReady place.now self.old (S.Looking.meaning variables.old) }
         ensures does { Steps (stepped (H.Looking.meaning heads.now).levels (head place.now.frames.now).t place.now.frame (before place.now self.old (S.Looking.meaning variables.old))) (S.Looking.meaning variables.old).levels (after place.now self.new (S.Looking.meaning variables.new)) result }
-        ensures capacity { (S.Looking.meaning variables.new).capacity ≡ (S.Looking.meaning variables.old).capacity }
-        ensures within { Within (place.now.i + 1) self.new.pending }
+        ensures onward { Onward place.now (S.Looking.meaning variables.old) (S.Looking.meaning variables.new) self.new }
     {
         if place.frame.kind < 0x20 {
             self.statement(place, variables)?;
@@ -59,8 +58,7 @@ impl Machine {
         requires kind { place.now.frame.kind < 0x20 }
         requires ready { IsReady place.now self.old (S.Looking.meaning variables.old) }
         ensures does { Does (stated (head place.now.frames.now).t place.now.frame (before place.now self.old (S.Looking.meaning variables.old))) (S.Looking.meaning variables.old).levels (after place.now self.new (S.Looking.meaning variables.new)) result }
-        ensures capacity { (S.Looking.meaning variables.new).capacity ≡ (S.Looking.meaning variables.old).capacity }
-        ensures within { Within (place.now.i + 1) self.new.pending }
+        ensures onward { Onward place.now (S.Looking.meaning variables.old) (S.Looking.meaning variables.new) self.new }
     {
         let frame = place.frame;
         match frame.kind {

@@ -35,8 +35,8 @@ loop-i-preserved g c =
     let few = nexts.sheet_short fs (ap is_sheet c.frames-frames.ensures.result ∙ c.args.sheet.now.formed) in
     let e = c.in-Ok.ensures in (
       turns.again _ _ fs c.loop-i.i c.loop-i.column c.loop-i.machine _ _ _ few (turns.at_place fs c.loop-i.i c.loop-i-test.true) c.loop-i.invariant.0
-          c.step.new.self _ _ c.in-Ok.t e.does e.capacity e.within,
-      e.capacity ∙ c.loop-i.invariant.1,
+          c.step.new.self _ _ c.in-Ok.t e.does e.onward.capacity e.onward.within,
+      e.onward.capacity ∙ c.loop-i.invariant.1,
     )
 
 pub returns-in-Err : goal.returns-in-Err
@@ -54,7 +54,7 @@ returns-in-Err g c =
     record {
       result = sym (ap verdict_of out);
       column = c.fill.ensures.after (λ y h. h) ∙ ap (λ (n : ℕ). replicate n 0) c.loop-i.invariant.0.long ∙ sym (ap column_of out);
-      levels = turns.same_store _ store ls (e.capacity ∙ c.loop-i.invariant.1 ∙ ap (λ s. s.capacity) c.wipe.ensures.leaves) e.does.1 ∙ ap (with_levels store) (sym (ap levels_of out));
+      levels = turns.same_store _ store ls (e.onward.capacity ∙ c.loop-i.invariant.1 ∙ ap (λ s. s.capacity) c.wipe.ensures.leaves) e.does.1 ∙ ap (with_levels store) (sym (ap levels_of out));
     }
 
 pub returns : goal.returns

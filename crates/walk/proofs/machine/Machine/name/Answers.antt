@@ -23,6 +23,8 @@ returns g c =
           ap (λ p. named os ls u c.args.place.now.frame.name (coming_at i u p fs)) c.in-Some.is
           ∙ earlier.name_taken d.t p.frame fs d.first i p.at.is a.0 p.at.within u os ls d.left (c.if-repeated.ensures ∙ ap (λ l. stands ls p.frame.name || among (unkept u l) p.frame.name) c.since.ensures)
           ∙ ap Ok (earlier.states (i + 1) fs (sym e.operands) (sym (ap (λ s. s.levels) c.keep.ensures)) (sym e.things) (sym e.pending));
-      capacity = ap (λ s. s.capacity) c.keep.ensures;
-      within = subst (Within (i + 1)) (sym e.pending) (earlier.within_more d.t (d.left - 1) d.first i a.0);
+      onward = record {
+        capacity = ap (λ s. s.capacity) c.keep.ensures;
+        within = subst (Within (i + 1)) (sym e.pending) (earlier.within_more d.t (d.left - 1) d.first i a.0);
+      };
     }
