@@ -1,6 +1,6 @@
 -- The codes of a sheet's parameters are those of its definition, and can be packed.
-use Rattle.std.proofs.Common.{◌≡◌, ℕ, zero, suc, ◌+◌, ◌<◌, ◌≤◌, true, ltb, List, [], ◌∷◌, ◌++◌, map, length, get_or, take, is_some, Some, None, Option, sym, refl, ap, ◌∙◌, ap₂, arith}
-use Rattle.std.proofs.lemmas.List.{take-map, take_all, take_more, length-map, get_or-map}
+use Rattle.std.proofs.Common.{◌≡◌, ℕ, ◌+◌, ◌<◌, ◌≤◌, true, ltb, List, [], ◌∷◌, ◌++◌, map, length, get_or, take, is_some, Some, None, Option, sym, refl, ap, ◌∙◌, ap₂, arith}
+use Rattle.std.proofs.lemmas.List.{take-map, take_all, take_more, length-take, length-map, get_or-map}
 use Rattle.std.proofs.lemmas.Bool.{cond-true}
 use Rattle.syntax.specs.declared.frame.Frame.{Frame}
 use Rattle.syntax.specs.declared.frame.Parameter.{Parameter}
@@ -30,11 +30,6 @@ codes_written d = params_coded d.params (write_stmts d.body (END ∷ []))
 pub packed_tree : (fs : List Frame) → OfTree fs (λ d. packed_head (definition_head d)) (sheet_packed fs)
 packed_tree fs d e = ap₂ packed (ap param_codes (sym e) ∙ codes_written d) (head_type fs d e)
 
-length_front : {A : Type 0} (n : ℕ) (xs : List A) → length (take n xs) ≤ length xs
-length_front zero xs = omega arith
-length_front (suc n) [] = omega arith
-length_front (suc n) (x ∷ xs) = let k = length_front n xs in omega arith
-
 -- the codes of so many parameters, and of one more
 codes_more : (ps : List Frame) (i : ℕ) → i < length ps → take (i + 1) (map (λ (f : Frame). f.t) ps) ≡ take i (map (λ (f : Frame). f.t) ps) ++ (get_or ps i blank).t ∷ []
 codes_more ps i l =
@@ -49,7 +44,7 @@ module _ (fs : List Frame) (h : is_sheet fs ≡ true) where
       let d = w.0 in
       let ts = param_types d.params in
       let few : length d.params ≤ 16 = w.1.params in
-      let l = length_front i ts in
+      let l = length-take i ts in
       let m = length-map d.params (λ (p : Parameter). p.t) in
       ap₂ fits (ap (take i) (ap param_codes (sym w.2) ∙ codes_written d) ∙ take-map type_code i ts) (head_type fs d w.2)
       ∙ codes_fit (take i ts) d.returns (omega arith)

@@ -1,6 +1,6 @@
 -- The test of an examination says what the record tells: names that do not repeat are distinct, and the head is the sheet's.
 use Rattle.std.proofs.Common.{◌≡◌, ℕ, Bool as Truth, true, false, not, ◌||◌, eqb, List, [], ◌∷◌, map, sym, refl, ap, ◌∙◌, subst, ap₂}
-use Rattle.std.proofs.lemmas.Bool.{eqb-true, eq-eqb, and_parts, and_from, false≢true}
+use Rattle.std.proofs.lemmas.Bool.{eqb-true, eq-eqb, and_parts, and_from, or_parts, or_left, or_right, not-true, false≢true}
 use Rattle.syntax.specs.declared.frame.Frame.{Frame}
 use Rattle.syntax.specs.Types.{param_of}
 use Rattle.syntax.specs.Heads.{head}
@@ -19,22 +19,11 @@ use Rattle.walk.specs.Recorded.{Recorded, RecordDecides}
 use Rattle.walk.proofs.HeadCodes.{packed_tree}
 
 -- ===== names =====
-or_either : (a b : Truth) → (a || b) ≡ false → (a ≡ false) × (b ≡ false)
-or_either true b h = absurd (false≢true (sym h))
-or_either false b h = (refl, h)
-
-or_left : (a b : Truth) → a ≡ true → (a || b) ≡ true
-or_left a b h = ap (λ a. a || b) h
-
-or_right : (a b : Truth) → b ≡ true → (a || b) ≡ true
-or_right true b h = refl
-or_right false b h = h
-
 -- none of the names seen is among those that do not repeat
 seen_apart : (xs seen : List ℕ) → repeats seen xs ≡ false → (s : ℕ) → among seen s ≡ true → NotIn s xs
 seen_apart [] seen h s k = tt
 seen_apart (y ∷ ys) seen h s k =
-    let w = or_either (among seen y) (repeats (y ∷ seen) ys) h in
+    let w = or_parts (among seen y) (repeats (y ∷ seen) ys) h in
     (other (eqb s y) refl w.0, seen_apart ys (y ∷ seen) w.1 s (or_right (eqb y s) (among seen s) k))
   where
     other : (b : Truth) → eqb s y ≡ b → among seen y ≡ false → b ≡ false
@@ -44,7 +33,7 @@ seen_apart (y ∷ ys) seen h s k =
 repeats_distinct : (xs seen : List ℕ) → repeats seen xs ≡ false → Distinct xs
 repeats_distinct [] seen h = tt
 repeats_distinct (x ∷ xs) seen h =
-    let w = or_either (among seen x) (repeats (x ∷ seen) xs) h in
+    let w = or_parts (among seen x) (repeats (x ∷ seen) xs) h in
     (seen_apart xs (x ∷ seen) w.1 x (or_left (eqb x x) (among seen x) (eq-eqb x x refl)), repeats_distinct xs (x ∷ seen) w.1)
 
 distinct_repeats : (xs seen : List ℕ) → Distinct xs → ((s : ℕ) → among seen s ≡ true → NotIn s xs) → repeats seen xs ≡ false
@@ -73,10 +62,6 @@ head_packed fs h =
     packed_tree fs w.0 w.2 ∙ ap packed_head (sym (head_written w.0) ∙ ap sheet_head w.2)
 
 -- ===== the test =====
-not_false : (b : Truth) → not b ≡ true → b ≡ false
-not_false true h = absurd (false≢true h)
-not_false false h = refl
-
 pub record_decides : RecordDecides
 record_decides fs name h = (told, tested)
   where
@@ -89,7 +74,7 @@ record_decides fs name h = (told, tested)
           sheet = a.0;
           named = eqb-true (head fs).name name b.0;
           headed = sym (head_packed fs a.0) ∙ eqb-true (sheet_packed fs) h c.0;
-          apart = subst Distinct (names_params (param_frames fs)) (repeats_distinct (names_of (param_frames fs)) [] (not_false (param_twice fs) c.1));
+          apart = subst Distinct (names_params (param_frames fs)) (repeats_distinct (names_of (param_frames fs)) [] (not-true (param_twice fs) c.1));
         }
 
     tested : Recorded fs name h → recorded fs name h ≡ true

@@ -1,5 +1,6 @@
 -- Names that do not repeat, one by one.
-use Rattle.std.proofs.Common.{◌≡◌, ℕ, zero, suc, ◌-◌, ◌<◌, Bool as Truth, true, false, ◌||◌, List, ◌∷◌, take, sym, refl, ap, ◌∙◌, arith}
+use Rattle.std.proofs.Common.{◌≡◌, ℕ, zero, suc, ◌-◌, ◌<◌, false, List, ◌∷◌, take, sym, ap, ◌∙◌, arith}
+use Rattle.std.proofs.lemmas.Bool.{or_parts}
 use Rattle.syntax.specs.declared.frame.Frame.{Frame}
 use Rattle.rules.specs.Judge.{among}
 use Rattle.walk.specs.Machines.{names_of}
@@ -7,11 +8,7 @@ use Rattle.walk.specs.Params.{repeats}
 
 -- the first of some names is not among those seen, and the others do not repeat it
 repeats_first : (seen : List ℕ) (x : ℕ) (xs : List ℕ) → repeats seen (x ∷ xs) ≡ false → (among seen x ≡ false) × (repeats (x ∷ seen) xs ≡ false)
-repeats_first seen x xs h = go (among seen x) (repeats (x ∷ seen) xs) h
-  where
-    go : (a b : Truth) → (a || b) ≡ false → (a ≡ false) × (b ≡ false)
-    go true b h = let z : ◌≡◌ {A = ℕ} 0 1 = cc in absurd (omega arith)
-    go false b h = (refl, h)
+repeats_first seen x xs h = or_parts (among seen x) (repeats (x ∷ seen) xs) h
 
 names_first : (k : ℕ) (f : Frame) (fs : List Frame) → 0 < k → names_of (take k (f ∷ fs)) ≡ f.name ∷ names_of (take (k - 1) fs)
 names_first zero f fs h = absurd (omega arith)
