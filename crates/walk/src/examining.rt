@@ -25,10 +25,10 @@ fn as_recorded(frames: &[Frame], name: u16, head: u64) -> Option<Formed>
 {
     let mut sheet = Formed::new();
     form(frames, &mut sheet).ok()?;
-    let told = sheet.name() == name
-        && head_of(&sheet) == head
-        && repeated_parameter(&sheet).is_none();
-    told.then_some(sheet)
+    if sheet.name() != name || head_of(&sheet) != head {
+        return None;
+    }
+    repeated_parameter(&sheet).is_none().then_some(sheet)
 }
 
 // Walks a sheet that its record gives this name and head: its types into the column, or the first violation, or that the frames were altered.
