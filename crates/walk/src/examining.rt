@@ -17,7 +17,7 @@ const PLACES: usize = 256;
 // So many variables may stand at once.
 const ROOM: usize = 256;
 
-// The sheet that the frames form, if it has this name and head, and no parameter twice.
+// The sheet that the frames form, if it has this name and head, and no parameter twice. Name and head stay two parameters: the book takes them from two fields of a record, and a pair made for the call would be no plainer.
 #[tactic(auto, using(crate::proofs::RepeatPlaces::twice_found))]
 fn as_recorded(frames: &[Frame], name: u16, head: u64) -> Option<Formed>
     ensures test { is_some result ≡ recorded frames.now name head }

@@ -61,7 +61,7 @@ fn variable<S: Looking<u8>>(name: u16, variables: &S) -> Result<u8, Violation>
     variables.look(name).ok_or(Violation::Undeclared)
 }
 
-// The type of the expression that ends at the frame.
+// The type of the expression that ends at the frame. Kinds are told apart by ranges with guards, the form that the project asks for in the walk.
 pub(crate) fn type_of<H: Looking<u64>, S: Looking<u8>>(
     frame: Frame,
     operands: &Operands,

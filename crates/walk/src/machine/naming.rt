@@ -92,8 +92,7 @@ impl Machine {
             return Err(Violation::Repeated);
         }
         self.keep(frame.name, frame.t, variables);
-        self.operands.pop();
-        self.things.finish();
+        self.finish_with_operand();
         Ok(())
     }
 }
