@@ -7,8 +7,7 @@ use Rattle.std.proofs.lemmas.Bool.Decides.{nat_tests}
 use Rattle.syntax.specs.declared.frame.Frame.{Frame}
 use Rattle.syntax.specs.declared.fault.Fault.{Fault}
 use Rattle.codec.specs.Text.{digit, hexes, line_of, text_of, Fit}
-use Rattle.syntax.specs.declared.fault.Fault.TheVariants.{BadLine, FramesFull, TextShort, TooLong, UnknownKind, BadField, NotAllowed, TooDeep, NoEnd, AfterEnd}
-use Rattle.syntax.specs.Faults.{number, place}
+use Rattle.syntax.specs.Faults.{place}
 use Rattle.syntax.proofs.Faults.{same_fault}
 use Rattle.codec.specs.Codec.{NoLine, Begun, Stops, Reads, Only, Writes, Written, Inverse}
 use Rattle.codec.proofs.Lines.{apart, length_text, length_line}
