@@ -3,10 +3,10 @@
 #![tactic(auto)]
 
 use book_driver::report_from;
-use cases::run_cases;
+use cases::count_agreeing;
 use std::fs::File;
-use std::io;
 use std::io::Read;
+use std::{fs, io};
 
 // A reader that hands on at most one byte at a time.
 #[derive(Drop)]
@@ -23,12 +23,18 @@ impl<R: Read> Read for Slowly<R> {
 
 // Compares the report on each case, read at once and byte by byte.
 fn main(rt: HostRuntime) -> io::Result<()> {
-    run_cases(&rt, |input, wanted| {
-        let said = report_from(rt.alloc(), &mut File::open(&rt, input)?)?;
+    let heap = rt.alloc();
+    let names = fs::read_to_string(&rt, "cases")?;
+    let cases: Vec<&str> = names.as_str().lines().collect(heap)?;
+    let agreed = count_agreeing(&rt, &cases, |case| {
+        let input = format!(in heap; "{case}.in")?;
+        let wanted = fs::read(&rt, format!(in heap; "{case}.out")?.as_str())?;
+        let said = report_from(heap, &mut File::open(&rt, input.as_str())?)?;
         let mut slowly = Slowly {
-            inner: File::open(&rt, input)?,
+            inner: File::open(&rt, input.as_str())?,
         };
-        let said_slowly = report_from(rt.alloc(), &mut slowly)?;
-        Ok(said.as_bytes() == wanted && said_slowly.as_bytes() == wanted)
-    })
+        let said_slowly = report_from(heap, &mut slowly)?;
+        Ok(said.as_bytes() == wanted.as_slice() && said_slowly.as_bytes() == wanted.as_slice())
+    })?;
+    println!(rt; "{agreed} cases agree")
 }

@@ -1,29 +1,29 @@
-// Runs a program's cases: texts in files, each with the text that the program should print of it.
+// Compares a program's cases with what they should give.
 
 #![tactic(auto)]
 
-use std::{fs, io};
+ghost use Rattle.std.specs.Prelude.{IfOk};
+ghost use Rattle.cases.specs.Agreed.{Agreed};
 
-// Prints which of the cases that the file `cases` names do not agree, and how many do. `agrees` is given the name of a
-// case's input and the text that is wanted.
-pub fn run_cases<F: FnMut(&str, &[u8]) -> io::Result<bool>>(
-    rt: &HostRuntime,
+use std::io;
+use std::io::Print;
+
+// How many of the cases agree, each asked once and in order; prints those that differ.
+pub fn count_agreeing<P: Print, F: FnMut(&str) -> io::Result<bool>>(
+    rt: &P,
+    cases: &[&str],
     mut agrees: F,
-) -> io::Result<()>
+) -> io::Result<usize>
     requires { F.IsAlwaysCallable agrees }
+    ensures { IfOk result (λ n. (last : F) × Agreed F.step agrees cases.now n last) }
 {
-    let heap = rt.alloc();
-    let mut agreed = 0usize;
-    let cases = fs::read_to_string(rt, "cases")?;
-    for case in cases.as_str().lines() {
-        let input = format!(in heap; "{case}.in")?;
-        let output = format!(in heap; "{case}.out")?;
-        let wanted = fs::read(rt, output.as_str())?;
-        if agrees(input.as_str(), wanted.as_slice())? {
-            agreed = agreed.saturating_add(1);
+    let mut agreed = 0;
+    for &case in cases {
+        if agrees(case)? {
+            agreed += 1;
         } else {
             println!(rt; "{case} differs")?;
         }
     }
-    println!(rt; "{agreed} cases agree")
+    Ok(agreed)
 }
