@@ -3,6 +3,9 @@ use Rattle.std.proofs.Common.{◌≡◌, ℕ, ◌<◌, ◌≤◌, Bool, true, lt
 use mathlib.Core.Path.{fun_ext}
 use Rattle.std.proofs.lemmas.Bool.{cond-false, le-ltb}
 use Rattle.syntax.specs.declared.frame.Frame.{Frame}
+use Rattle.syntax.specs.declared.frame.«Type».{«Type» as Ty}
+use Rattle.syntax.specs.Writing.{type_code}
+use Rattle.history.specs.Words.{map_some}
 use Rattle.history.specs.Calls.{refusal}
 use Rattle.history.specs.Plain.{plain}
 use Rattle.history.specs.Due.{CheckedValid.just_now}
@@ -30,7 +33,7 @@ unfolding asked
 asked_type book s p l = cond-false (ltb 31 s) (Err (refusal 31 s)) (Ok (type_of book s p)) (le-ltb 31 s (omega arith))
 
 -- so it is not refused
-pub answered : (book : State Frame) (s p : ℕ) (r : Result (Option ℕ) Fault) → s < 32 → asked_of r ≡ asked cpp book s p → is_ok r ≡ true
+pub answered : (book : State Frame) (s p : ℕ) (r : Result (Option Ty) Fault) → s < 32 → asked_of r ≡ asked cpp book s p → is_ok r ≡ true
 answered book s p (Ok o) l e = refl
 answered book s p (Err f) l e =
     let i : Err (told f) ≡ Ok (type_of book s p) = e ∙ asked_type book s p l in
@@ -38,12 +41,12 @@ answered book s p (Err f) l e =
     absurd (omega arith)
 
 -- and its answer is that type
-pub type_read : (book : State Frame) (s p : ℕ) (r : Result (Option ℕ) Fault) (o : Option ℕ) → s < 32 → asked_of r ≡ asked cpp book s p → r ≡ Ok o → o ≡ type_of book s p
+pub type_read : (book : State Frame) (s p : ℕ) (r : Result (Option Ty) Fault) (o : Option Ty) → s < 32 → asked_of r ≡ asked cpp book s p → r ≡ Ok o → map_some type_code o ≡ type_of book s p
 type_read book s p r o l e i =
-    let same : Ok o ≡ Ok (type_of book s p) = sym (ap asked_of i) ∙ e ∙ asked_type book s p l in cc
+    let same : Ok (map_some type_code o) ≡ Ok (type_of book s p) = sym (ap asked_of i) ∙ e ∙ asked_type book s p l in cc
 
 -- the types do not hang on the book's mark
-same_types : (rs : List Record) (v w : Bool) (f : List Frame) (k : List ℕ) → type_of (state_of rs v f k) ≡ type_of (state_of rs w f k)
+same_types : (rs : List (Option Record)) (v w : Bool) (f : List Frame) (k : List ℕ) → type_of (state_of rs v f k) ≡ type_of (state_of rs w f k)
 same_types rs v w f k = fun_ext (λ s. fun_ext (λ p. go s p (record_at (state_of rs v f k) s)))
   where
     go : (s p : ℕ) (o : Option Row) → type_asked cpp (state_of rs v f k) s p o ≡ type_asked cpp (state_of rs w f k) s p o

@@ -30,13 +30,8 @@ impl fmt::Display for Rejected {
         match self {
             Rejected::TooLong => f.write_str("too long"),
             Rejected::Refused(fault) => {
-                let Diagnostic {
-                    number,
-                    layer,
-                    sheet,
-                    place,
-                } = fault.diagnostic();
-                write!(f, "refused {number} {layer} {sheet} {place}")
+                let diagnostic = Diagnostic::from(*fault);
+                write!(f, "refused {diagnostic}")
             }
         }
     }

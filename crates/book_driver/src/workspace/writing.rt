@@ -22,7 +22,10 @@ fn write_place(
     ensures { OnOk result (string_bytes text.new ≡ string_bytes text.old ++ type_line sheet place (type_of (valid_state reader.now.table.now reader.now.frames.now reader.now.column.now) sheet place)) }
 {
     match reader.type_at(sheet, place).unwrap() {
-        Some(number) => writeln!(text, "{sheet} {place} {number}"),
+        Some(t) => {
+            let number = u8::from(t);
+            writeln!(text, "{sheet} {place} {number}")
+        }
         None => Ok(()),
     }
 }
