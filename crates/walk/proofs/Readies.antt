@@ -38,8 +38,8 @@ module _ (cap i : ℕ) (f : Frame) (os : List ℕ) (ls : List Numbers) (u : List
   pub ready_open : f.kind ≡ 0x16 → 0 < length ls → standing ls < cap → length ls < 33 → length u < 32 → p ≡ None → Ready cap i f os ls u p
   ready_open k some room l v idle = search rules
 
-  pub ready_close : f.kind ≡ 0x17 → 0 < length ls → standing ls < cap → 0 < length u → p ≡ None → Ready cap i f os ls u p
-  ready_close k some room v idle = search rules
+  pub ready_close : f.kind ≡ 0x17 → 0 < length ls → standing ls < cap → p ≡ None → Ready cap i f os ls u p
+  ready_close k some room idle = search rules
 
   pub ready_begin : 0x17 < f.kind → f.kind ≤ 0x19 → 0 < length ls → standing ls < cap → 0 < length os → length u < 32 → p ≡ None → Ready cap i f os ls u p
   ready_begin k k' some room one v idle = search rules

@@ -120,11 +120,10 @@ module _ (cap : ℕ) (room : 256 ≤ cap) (i : ℕ) (fs : List Frame) (s : State
       let v = q.0 in
       let b = a.0 in let few = b.few in let len = a.1 in
       let th : s.things ≡ Block ∷ v = b.things ∙ q.1 in
-      let tl = ap length th in
       let d : length s.levels ≡ suc (suc (blocks v)) = b.deep ∙ ap (λ u. suc (blocks u)) q.1 in
       let sb = standing_below s.levels in
       record {
-        ready = readies.ready_close cap i (frame_of CLOSE) _ _ _ p refl (some_level b) (omega arith) (omega arith) (still a.2);
+        ready = readies.ready_close cap i (frame_of CLOSE) _ _ _ p refl (some_level b) (omega arith) (still a.2);
         leaves = λ hs ρ c s' h.
             subst (λ φ. Agreeing (i + 1) fs φ s') q.2
             (subst (λ s. Agreeing (i + 1) fs (at Body (finish v) 0) s) (sym (ok_is (plain_is _ c s' h)))

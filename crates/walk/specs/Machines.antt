@@ -88,7 +88,6 @@ pub record Ready (cap : ℕ) (i : ℕ) (f : Frame) (os : List ℕ) (ls : List Nu
   pub inits : 0x12 < f.kind → f.kind ≤ 0x13 → 0 < length os
   pub returns : 0x14 < f.kind → f.kind ≤ 0x15 → 0 < length os
   pub opens : 0x15 < f.kind → f.kind ≤ 0x16 → (length ls < 33) × (length u < 32)
-  pub closes : 0x16 < f.kind → f.kind ≤ 0x17 → 0 < length u
   pub begins : 0x17 < f.kind → f.kind ≤ 0x1F → (0 < length os) × (length u < 32)
   pub takes : 0x20 ≤ f.kind → (arity f ≤ length os) × (length os < 256 + arity f)
   pub still : (0x11 < f.kind → f.kind ≤ 0x12 → ⊥) → p ≡ None
