@@ -1,4 +1,5 @@
-// The areas that the host lends: 256 places for each sheet.
+// The areas that the host lends: 256 places for each sheet. Each call makes arrays of them by the library's method, area by area: one
+// helper for both was tried, but a `&mut` slice that goes into a pair or a Result has no value known at the exit (`c.frames-1.given`).
 ghost use Rattle.std.specs.Prelude.{◌≡◌, suc, length, take};
 ghost use Rattle.history.specs.Areas.{part, with_part};
 

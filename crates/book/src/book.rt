@@ -1,4 +1,5 @@
-// A book of 32 sheets.
+// A book of 32 sheets. The host lends frames and a column to each call, as two slices of any length: a struct of both would be
+// one more word of the interface, so the calls take two parameters.
 use crate::table::Table;
 
 // The records of its sheets, and whether its last accepted edit or check was a check that found it valid.

@@ -1,5 +1,5 @@
 -- The marks on the callers of a name whose head changes.
-use Rattle.std.proofs.Common.{◌≡◌, ℕ, suc, Bool, true, false, cond, ◌&&◌, ◌||◌, eqb, List, [], ◌∷◌, get_or, take, Some, None, Option, sym, refl, ap, ◌∙◌}
+use Rattle.std.proofs.Common.{◌≡◌, ℕ, Bool, true, false, cond, ◌&&◌, ◌||◌, eqb, List, [], ◌∷◌, get_or, Some, None, Option, refl, ap}
 use Rattle.std.specs.List.{list_any}
 use Rattle.syntax.specs.declared.frame.Frame.{Frame}
 use Rattle.rules.specs.Calls.{calls}
@@ -9,7 +9,7 @@ use Rattle.history.specs.Areas.{part}
 use Rattle.history.specs.Working.{marked}
 use Rattle.cpp.specs.Cpp.{cpp}
 use Rattle.records.specs.declared.record.Record.{Record}
-use Rattle.records.specs.Records.{record_of, renewed, calls_changed, marked_record}
+use Rattle.records.specs.Records.{record_of, calls_changed, marked_record}
 use Rattle.records.proofs.Rows.{signed_by}
 use Rattle.records.proofs.Updates.{UpdatedTo, updated_kept}
 
@@ -31,24 +31,6 @@ module _ (o w : Option (ℕ × ℕ)) where
       ]
 
   -- ## a record
-
-  -- a mark that does not come
-  or_false : (b : Bool) → (b || false) ≡ b
-  or_false true = refl
-  or_false false = refl
-
-  -- one that does
-  or_true : (b : Bool) → (b || true) ≡ true
-  or_true true = refl
-  or_true false = refl
-
-  -- the record of a sheet that calls no changed name stays
-  pub calling_unmarked : (b : List Frame) (r : Record) → calls_changed o w (take (suc r.end) b) ≡ false → Some r ≡ marked_record o w b (Some r)
-  calling_unmarked b r h = sym (ap (λ q. Some (renewed r r.kept (r.due || q))) h ∙ ap (λ q. Some (renewed r r.kept q)) (or_false r.due))
-
-  -- one that calls such a name is due
-  pub calling_marked : (b : List Frame) (r : Record) → calls_changed o w (take (suc r.end) b) ≡ true → Some (renewed r r.kept true) ≡ marked_record o w b (Some r)
-  calling_marked b r h = sym (ap (λ q. Some (renewed r r.kept (r.due || q))) h ∙ ap (λ q. Some (renewed r r.kept q)) (or_true r.due))
 
   -- a marked record is the law's
   pub marked_told : (b : List Frame) (r : Option Record) → record_of (marked_record o w b r) ≡ marked cpp o w b (record_of r)

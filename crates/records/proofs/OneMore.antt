@@ -31,8 +31,3 @@ pub releveled_twice : (s : Store ℕ) (o w : Option (List Numbers)) → relevele
 releveled_twice s o None = refl
 releveled_twice s None (Some ls) = refl
 releveled_twice s (Some ks) (Some ls) = refl
-
--- the capacity stays
-pub releveled_capacity : (s : Store ℕ) (o : Option (List Numbers)) → (releveled s o).capacity ≡ s.capacity
-releveled_capacity s None = refl
-releveled_capacity s (Some ls) = refl

@@ -18,7 +18,7 @@ use Rattle.records.specs.Records.{kept_of, row_of, record_of, renewed, signature
 use Rattle.records.specs.Stores.{levels_again, levels_walked, highest, releveled, sheet_levels}
 use Rattle.records.specs.Walks.{judged, SheetWalked}
 use Rattle.records.proofs.Rows.{record_read, signed_by, signed_row, signature_read}
-use Rattle.records.proofs.OneMore.{count_more, count_few, rewritten_more, highest_more, releveled_twice, releveled_capacity}
+use Rattle.records.proofs.OneMore.{count_more, count_few, rewritten_more, highest_more, releveled_twice}
 
 -- ## a record that is not due
 
@@ -147,11 +147,6 @@ settled_signed rs₀ fs k₀ s₀ t rs k s n w u =
           ∙ signature_read rs₀ u
       | inr l ↦ ap signed_by (w.above u l)
     ]
-
--- the store keeps its capacity
-pub settled_capacity : {rs₀ : List (Option Record)} {fs : List Frame} {k₀ : List ℕ} (s₀ : Store ℕ) {t : ℕ} {rs : List (Option Record)} {k : List ℕ} (s : Store ℕ) {n : ℕ} →
-    SettledBelow rs₀ fs k₀ s₀ t rs k s n → s.capacity ≡ s₀.capacity
-settled_capacity {rs₀ = rs₀} {fs = fs} {k₀ = k₀} s₀ {t = t} s w = ap (λ (x : Store ℕ). x.capacity) w.variables ∙ releveled_capacity s₀ (highest t (sheet_levels (state_of rs₀ false fs k₀)))
 
 -- at most the sheets below are counted
 pub settled_few : {rs₀ : List (Option Record)} {fs : List Frame} {k₀ : List ℕ} {s₀ : Store ℕ} {t : ℕ} {rs : List (Option Record)} {k : List ℕ} {s : Store ℕ} {n : ℕ} →

@@ -18,7 +18,8 @@ use levels::store::{Declaring, Looking};
 use records::{Fault, Record, Signature};
 use walk::{Verdict, examine};
 
-// Walks one sheet: its types into its part of the column, or the first violation, or that its frames were altered.
+// Walks one sheet: its types into its part of the column, or the first violation, or that its frames were altered. (A struct of the
+// areas and the stores would be no plainer: both functions would say of each `&mut` in it that it stays the same.)
 fn walk_sheet<H: Looking<u64>, S: Declaring<u8>>(
     row: Record,
     sheet: Sheet,
@@ -88,7 +89,7 @@ impl Table {
         walked
     }
 
-    // The fault of the lowest faulty sheet, by the verdicts kept.
+    // The fault of the lowest faulty sheet, by the verdicts kept. (A loop and not `find_map`: in a closure the index has no bound.)
     pub(crate) fn lowest_fault(&self) -> Option<Fault>
         ensures { map_some told result ≡ lowest 32 (λ t. kept_fault t (record_of (slice_index_or self.now.records t None))) }
     {
