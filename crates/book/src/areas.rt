@@ -1,5 +1,5 @@
-// The areas that the host lends: 256 places for each sheet. Each call makes arrays of them by the library's method, area by area: one
-// helper for both was tried, but a `&mut` slice that goes into a pair or a Result has no value known at the exit (`c.frames-1.given`).
+// The areas that the host lends: 256 places for each sheet. Each call makes arrays of them by the library's method, area by area. (Both at
+// once, as a pair, was tried: of a refused area the proof then knows no value, and the goal names `c.frames-1.given` for it.)
 ghost use Rattle.std.specs.Prelude.{◌≡◌, suc, length, take};
 ghost use Rattle.history.specs.Areas.{part, with_part};
 

@@ -89,7 +89,8 @@ impl Table {
         walked
     }
 
-    // The fault of the lowest faulty sheet, by the verdicts kept. (A loop and not `find_map`: in a closure the index has no bound.)
+    // The fault of the lowest faulty sheet, by the verdicts kept. (`find_map` over the same chain was tried: `search (rules, chains)` finds
+    // "no proof" that what it answers is the lowest sheet's, since its clauses tell items by the places of a run.)
     pub(crate) fn lowest_fault(&self) -> Option<Fault>
         ensures { map_some told result ≡ lowest 32 (λ t. kept_fault t (record_of (slice_index_or self.now.records t None))) }
     {
