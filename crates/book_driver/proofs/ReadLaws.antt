@@ -1,5 +1,5 @@
 -- A reader of a valid book is made, and answers every question on one of the 32 sheets.
-use Rattle.std.proofs.Common.{◌≡◌, ℕ, ◌<◌, ◌≤◌, Bool, true, ltb, List, ◌∷◌, ◌++◌, length, is_ok, IfOk, Some, None, Ok, Err, Option, Result, sym, refl, ap, ap₂, ◌∙◌, subst, append_assoc, arith}
+use Rattle.std.proofs.Common.{◌≡◌, ℕ, ◌<◌, Bool, true, ltb, List, ◌∷◌, ◌++◌, is_ok, IfOk, Some, None, Ok, Err, Option, Result, sym, refl, ap, ap₂, ◌∙◌, subst, append_assoc, arith}
 use mathlib.Core.Path.{fun_ext}
 use Rattle.std.proofs.lemmas.Bool.{cond-false, le-ltb}
 use Rattle.syntax.specs.declared.frame.Frame.{Frame}
@@ -25,7 +25,7 @@ use Rattle.book.specs.declared.reader.Reader.{Reader}
 use Rattle.book.specs.States.{state, valid_state}
 use Rattle.book_driver.specs.Histories.{checking, all_posts}
 use Rattle.book_driver.specs.Reports.{Says, Leaves}
-use Rattle.book_driver.specs.Texts.{outcome_text, line, type_of, type_lines, TypesRead, Reported, ReportedOfSome}
+use Rattle.book_driver.specs.Texts.{outcome_text, line, type_of, type_lines, TypesRead, Reported}
 
 -- a question on one of the 32 sheets is answered, with the type there
 asked_type : (book : State Frame) (s p : ℕ) → s < 32 → asked cpp book s p ≡ Ok (type_of book s p)
@@ -90,8 +90,3 @@ valid_reported input n book said left start middle after first rest =
       rest ∙ ap (λ x. x ++ types) first ∙ append_assoc start top types,
       record { outcome = Ok n; said = said; printed = (type_of book, types_read input 256 256 book left, refl) },
     )
-
--- the report on bytes of which there are not too many is one on some input
-pub reported_of_some : {X E : Type 0} (text : X → List ℕ) (r : Result X E) (bytes : List ℕ) → length bytes ≤ 65537 → IfOk r (λ t. Reported bytes 8192 8192 256 256 (text t)) → IfOk r (λ t. ReportedOfSome (text t))
-reported_of_some text (Ok t) bytes l w = (bytes, l, w)
-reported_of_some text (Err e) bytes l w = tt

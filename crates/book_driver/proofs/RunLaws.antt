@@ -1,5 +1,5 @@
 -- The run, piece by piece: what each call on the book hands on to the next.
-use Rattle.std.proofs.Common.{◌≡◌, ℕ, ◌+◌, ◌<◌, true, cond, List, [], ◌∷◌, Some, None, Option, sym, refl, ap, ◌∙◌, subst, arith}
+use Rattle.std.proofs.Common.{◌≡◌, ℕ, ◌+◌, ◌<◌, true, cond, List, [], ◌∷◌, Some, None, Option, sym, refl, ap, ◌∙◌, subst}
 use Rattle.syntax.specs.declared.frame.Frame.{Frame}
 use Rattle.history.specs.Words.{or_else}
 use Rattle.history.specs.Language.{Fault}
@@ -56,10 +56,6 @@ pub record Onward (input : List ℕ) (rest : List (List ℕ)) (k : ℕ) (book : 
   pub all : posts k past rest ≡ all_posts input
   pub first : post_fault k past rest ≡ post_fault 0 [] (pieces input)
 
--- a fresh book begins
-pub begins : (input : List ℕ) (book : State Frame) → Stands cpp (plain cpp []) book → Onward input (pieces input) 0 book
-begins input book s = record { past = []; stands = s; all = refl; first = refl }
-
 module _ (input : List ℕ) (rest : List (List ℕ)) (k : ℕ) (book : State Frame) (on : Onward input rest k book) where
   -- with no piece left all were accepted
   pub ends : rest ≡ [] → (post_fault 0 [] (pieces input) ≡ None) × Stands cpp (plain cpp (all_posts input)) book
@@ -101,10 +97,6 @@ module _ (input : List ℕ) (rest : List (List ℕ)) (k : ℕ) (book : State Fra
 pub posting_told : (input : List ℕ) (o : Option Fault) → post_fault 0 [] (pieces input) ≡ o → o ≡ posting_fault input 8192 8192
 unfolding fresh_refusal
 posting_told input o e = sym e
-
--- a fault is there, so it is not absent
-pub not_absent : (f : Fault) → Some f ≡ None → ⊥
-not_absent f e = let z : ◌≡◌ {A = ℕ} 0 1 = cc in omega arith
 
 -- ## the check
 

@@ -6,6 +6,7 @@ use frames::{Fault, Formed, Frame, form, read};
 use input::{FRAMES, LONGEST, Pieces};
 
 // Reads a piece into frames of its own and forms them, and answers their count.
+#[tactic(auto, using(crate::proofs::RunLaws::taken_few, crate::proofs::RunLaws::taken_whole))]
 fn take_piece(piece: &[u8]) -> Result<usize, Fault>
     ensures result { Taken piece.now result }
     ensures bound { Few result }

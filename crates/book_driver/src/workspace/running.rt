@@ -75,6 +75,7 @@ impl Workspace {
     }
 
     // Makes of the input a book, piece by piece, up to the first refusal, and checks it; answers how many sheets that walked.
+    #[tactic(auto, using(crate::proofs::RunLaws::after_check))]
     pub(crate) fn run(&mut self, input: &[u8]) -> Result<usize, Rejected>
         ensures result { Says input.now 8192 8192 256 256 result }
         ensures history { Leaves input.now 256 256 result (book_of self.new) }

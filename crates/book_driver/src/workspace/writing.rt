@@ -31,6 +31,7 @@ fn write_place(
 }
 
 // Writes the lines of a sheet, in rising order.
+#[tactic(auto, using(crate::proofs::TextLaws::sheet_none, crate::proofs::TextLaws::sheet_more))]
 fn write_sheet(text: &mut String, reader: &Reader<'_>, sheet: u8) -> Result<(), AllocError>
     requires { sheet < 32 }
     ensures { OnOk result (string_bytes text.new ≡ string_bytes text.old ++ sheet_lines (type_of (valid_state reader.now.table.now reader.now.frames.now reader.now.column.now)) sheet 256) }
@@ -43,6 +44,7 @@ fn write_sheet(text: &mut String, reader: &Reader<'_>, sheet: u8) -> Result<(), 
 
 impl Workspace {
     // A reader of the types of a valid book.
+    #[tactic(auto, using(crate::proofs::ReadLaws::lent_types, crate::proofs::ReadLaws::own_reading))]
     fn reader(&self) -> Result<Reader<'_>, Fault>
         ensures result { refusal_of result ≡ working_reading (book_of self.now) 8192 8192 }
         ensures types { IfOk result (λ q. type_of (valid_state q.table.now q.frames.now q.column.now) ≡ type_of (book_of self.now)) }
@@ -51,6 +53,7 @@ impl Workspace {
     }
 
     // Writes the types of a valid book, sheet by sheet.
+    #[tactic(auto, using(crate::proofs::TextLaws::types_none, crate::proofs::TextLaws::types_more))]
     fn write_types(&self, text: &mut String) -> Result<(), AllocError>
         requires { working_reading (book_of self.now) 8192 8192 ≡ None }
         ensures { OnOk result (string_bytes text.new ≡ string_bytes text.old ++ type_lines (type_of (book_of self.now)) 32) }
