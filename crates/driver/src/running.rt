@@ -25,6 +25,7 @@ pub fn run(input: &[u8]) -> Result<Accepted, Rejected>
     if input.len() > LONGEST {
         return Err(Rejected::TooLong);
     }
+    // Both counts are the answer, so no `enumerate` counts the pieces again.
     let mut sheets = 0;
     let mut frames = 0;
     for piece in Pieces::new(input) {

@@ -20,19 +20,14 @@ use syntax::Frame;
 // So many entries has a store.
 const ENTRIES: usize = 256;
 
-// An entry of the store of heads before any is declared.
-const NO_HEAD: Entry<u64> = Entry {
-    name: 0,
-    value: 0,
-    next: None,
-};
-
-// An entry of the store of variables before any is declared.
-const NO_VARIABLE: Entry<u8> = Entry {
-    name: 0,
-    value: 0,
-    next: None,
-};
+// An entry before any name is declared.
+fn unused<V>(value: V) -> Entry<V> {
+    Entry {
+        name: 0,
+        value,
+        next: None,
+    }
+}
 
 impl Workspace {
     // Posts a piece on the sheet of that number.
@@ -64,8 +59,8 @@ impl Workspace {
     fn check(&mut self) -> Result<Checked, Fault>
         ensures history { Goes (book_of self.old) (checking 256 256) (checked_of result) (book_of self.new) }
     {
-        let mut heads = [NO_HEAD; ENTRIES];
-        let mut variables = [NO_VARIABLE; ENTRIES];
+        let mut heads = [unused(0u64); ENTRIES];
+        let mut variables = [unused(0u8); ENTRIES];
         self.book.check(
             &self.frames,
             &mut self.column,
