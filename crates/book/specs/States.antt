@@ -7,6 +7,7 @@ use Rattle.records.specs.declared.fault.Fault.{Fault}
 use Rattle.records.specs.Records.{state_of}
 use Rattle.records.specs.Stores.{heads_left, variables_left}
 use Rattle.book.specs.declared.book.Book.{Book}
+use Rattle.book.specs.declared.reader.Reader.{Reader}
 use Rattle.book.specs.declared.table.Table.{Table}
 
 -- the book's records and its mark over the areas
@@ -16,6 +17,10 @@ state b f k = state_of b.table.records b.valid f k
 -- a valid book by its records alone
 abbrev pub valid_state : Table → List Frame → List ℕ → State Frame
 valid_state t f k = state_of t.records true f k
+
+-- the valid book that a reader reads
+abbrev pub read_state : Reader → State Frame
+read_state r = valid_state r.table.now r.frames.now r.column.now
 
 module _ {A : Type 0} where
   -- the store of heads after a check: one level with every record's head, or as it was where the check is refused

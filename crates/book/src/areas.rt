@@ -27,6 +27,7 @@ pub(crate) fn write_part<T: Copy>(area: &mut [T; AREA], sheet: Sheet, part: &[T]
     requires { length part.now ≡ 256 }
     ensures { area.new ≡ with_part sheet.number part.now area.old }
 {
+    // as a slice, which can be borrowed by parts
     let area = &mut area[..];
     area[sheet.range()].copy_from_slice(part);
 }

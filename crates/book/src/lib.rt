@@ -4,7 +4,6 @@
 
 mod areas;
 pub mod book;
-mod numbers;
 pub mod reader;
 mod sheet;
 mod table;

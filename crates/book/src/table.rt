@@ -4,7 +4,7 @@ ghost use Rattle.records.specs.Records.{headed, clash};
 
 use records::Record;
 
-// Each filled sheet has a packed head, and no two have one name.
+// Each record has a packed head, and no two have one name.
 #[derive(Drop)]
 pub struct Table {
     records: [Option<Record>; 32],

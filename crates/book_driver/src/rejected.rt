@@ -1,4 +1,4 @@
-// Why there is no valid book.
+// Why there is no valid book. (Printed by hand and not by a derive of the kit: the report's contract needs the bytes, `output`.)
 ghost use Rattle.std.specs.Prelude.{◌≡◌, Some};
 ghost use Rattle.book_driver.specs.Texts.{rejected_text};
 ghost use Rattle.book_driver.specs.declared.rejected.Rejected.TheVariants.{Refused};

@@ -8,7 +8,7 @@ use syntax::Frame;
 // So many places has an area.
 const AREA: usize = 8192;
 
-// A book and its areas of frames and of types.
+// A book and its areas of frames and of types: two areas, as the book's calls take them.
 #[derive(Drop)]
 pub(crate) struct Workspace {
     book: Book,

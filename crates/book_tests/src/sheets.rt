@@ -1,7 +1,7 @@
 // Sheets to put, named by what they show.
 use syntax::{Frame, Type};
 
-// A frame of these four fields.
+// A frame of these four fields. (The tests of the walk have the same one; a crate for both would hold nothing else.)
 pub fn frame(kind: u8, t: u8, name: u16, load: u32) -> Frame {
     Frame {
         kind,

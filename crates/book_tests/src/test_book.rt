@@ -8,7 +8,7 @@ use levels::store::{Declaring, Looking};
 use std::alloc::{AllocError, Global};
 use syntax::{Diagnostic, Frame};
 
-// The book, its frames and its column.
+// The book, its frames and its column: two areas, as the book's calls take them.
 #[derive(Drop)]
 pub struct TestBook {
     book: Book,
@@ -16,7 +16,7 @@ pub struct TestBook {
     column: Vec<u8>,
 }
 
-// The four numbers of a refusal, or zeros for a call that was done.
+// The four numbers of a refusal, or zeros for a call that was done. (Numbers, here and in the cases: they are what hosts are promised.)
 pub fn told(answer: Result<(), Fault>) -> [usize; 4] {
     answer.err().map_or([0; 4], numbers)
 }

@@ -11,6 +11,8 @@ const LINE: usize = 17;
 
 const NEWLINE: u8 = b'\n';
 
+// Digits are read and written by hand, since a line goes into lent bytes and its theorems are about digits.
+
 // The byte of a digit below 16.
 fn digit_byte(d: u8) -> u8
     requires { d < 16 }

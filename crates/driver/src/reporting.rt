@@ -1,4 +1,5 @@
-// The whole report on an input.
+// The whole report on an input. (The other driver's `report_from` and program differ in the `report` that they call; one function over
+// both would take it as a closure and say no more.)
 ghost use Rattle.std.specs.Prelude.{IfOk, IfSome, take, string_bytes};
 ghost use Rattle.driver.specs.Texts.{Reported, ReportedOfSome};
 

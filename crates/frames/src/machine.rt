@@ -4,7 +4,7 @@ ghost use Rattle.std.specs.Prelude.{◌≤◌};
 use crate::things::Things;
 use syntax::Stage;
 
-// What comes next, the unfinished things, the operands ready, and how many frames were taken.
+// What comes next, the unfinished things, the operands ready, and how many frames were taken: every refusal and the end tell that place.
 #[derive(Drop)]
 pub struct Machine {
     stage: Stage,

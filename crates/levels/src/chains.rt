@@ -93,6 +93,7 @@ impl<'a, V: Copy> Declaring<V> for Chains<'a, V> {
 
     fn leave(&mut self) -> Result<(), Refusal> {
         let start = self.levels.top().ok_or(Refusal::NoneToLeave)?;
+        // Until the level is gone: `unlink` itself counts down.
         while self.levels.count() > start {
             self.unlink();
         }
@@ -113,6 +114,8 @@ impl<'a, V: Copy> Declaring<V> for Chains<'a, V> {
 }
 
 // The newest place of the name among the first `count` entries, along its chain.
+// (A loop and not `successors(..).find(..)`: the closures index the entries, and the bound of each place, `find-requires-clause-can`, is
+// known along the chain alone.)
 fn walk<V>(entries: &[Entry<V>], count: usize, head: Option<usize>, name: u16) -> Option<usize>
     requires within { count ≤ length entries.now }
     requires threaded { Threaded (names entries.now) (nexts entries.now) count }

@@ -2,12 +2,12 @@
 
 #![tactic(auto)]
 
-mod buckets;
+pub mod buckets;
 pub mod chains;
 pub mod entry;
 pub mod pile;
 pub mod refusal;
 pub mod search;
-mod slices;
+pub mod slices;
 pub mod store;
-mod table;
+pub mod table;

@@ -11,7 +11,8 @@ use crate::slices::{usable, value_at};
 use crate::store::{Declaring, Looking};
 use crate::table::LevelTable;
 
-// Entries in the order in which they were declared, and the table of the levels that they stand on.
+// Entries in the order in which they were declared, and the table of the levels that they stand on. (The entries are lent, so their
+// count stands beside them, in the table.)
 #[derive(Drop)]
 pub struct Pile<'a, V> {
     entries: &'a mut [Entry<V>],

@@ -96,7 +96,7 @@ impl LevelTable {
     }
 
     // An entry more on the top level.
-    pub fn grow(&mut self)
+    pub(crate) fn grow(&mut self)
         requires level { 0 < length (layout self.old).starts }
         requires room { self.old.count + 1 < 2 ^ 64 }
         ensures leaves { layout self.new ≡ grown (layout self.old) }
@@ -105,7 +105,7 @@ impl LevelTable {
     }
 
     // The newest entry of the top level goes.
-    pub fn shrink(&mut self)
+    pub(crate) fn shrink(&mut self)
         requires entry { top_or (layout self.old).starts self.old.count < self.old.count }
         ensures leaves { layout self.old ≡ grown (layout self.new) }
     {

@@ -17,7 +17,7 @@ const GARBAGE: Entry<u8> = Entry {
     next: Some(1000),
 };
 
-// 0, or the number of the refusal.
+// 0, or the number of the refusal, which is what hosts are promised.
 fn number_of(r: Result<(), Refusal>) -> u8 {
     r.err().map_or(0, u8::from)
 }

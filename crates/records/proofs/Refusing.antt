@@ -11,7 +11,7 @@ use Rattle.history.specs.Promise.{with_areas}
 use Rattle.cpp.specs.Sheet.{Sheet}
 use Rattle.cpp.specs.Heads.{name_of, repeated_in}
 use Rattle.cpp.specs.Cpp.{cpp}
-use Rattle.records.specs.declared.record.Signature.{Signature}
+use Rattle.walk.specs.declared.signature.Signature.{Signature}
 use Rattle.records.specs.Records.{signed}
 
 -- a signature that is there, in the law's words too

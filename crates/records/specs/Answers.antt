@@ -1,5 +1,5 @@
 -- What the calls answer, in the law's words.
-use Rattle.std.specs.Prelude.{ℕ, Some, None, Ok, Err, Option, Result}
+use Rattle.std.specs.Prelude.{ℕ, Bool, true, not, is_some, Some, None, Ok, Err, Option, Result}
 use Rattle.syntax.specs.declared.frame.«Type».{«Type» as Ty}
 use Rattle.syntax.specs.Writing.{type_code}
 use Rattle.history.specs.Words.{map_some}
@@ -7,8 +7,22 @@ use Rattle.history.specs.Language.{Fault as Numbered}
 use Rattle.history.specs.Calls.{Answer, Answer.refused, Answer.done, Answer.checked}
 use Rattle.cpp.specs.Cpp.{cpp}
 use Rattle.records.specs.declared.fault.Fault.{Fault}
+use Rattle.records.specs.declared.fault.Fault.TheVariants.{Posted, NoSheet, OtherLength, NameTaken, RepeatedParameter, EmptySheet, NotValid, Altered, SmallStore, Broken}
 use Rattle.records.specs.declared.fault.Checked.{Checked}
 use Rattle.records.specs.Faults.{told}
+
+-- a refusal of an area's length names no sheet
+abbrev pub unnamed : Fault → Bool
+unnamed (Posted e s) = true
+unnamed (NoSheet s) = true
+unnamed (OtherLength s) = not (is_some s)
+unnamed (NameTaken s) = true
+unnamed (RepeatedParameter s p) = true
+unnamed (EmptySheet s) = true
+unnamed NotValid = true
+unnamed (Altered s) = true
+unnamed SmallStore = true
+unnamed (Broken v s p) = true
 
 module _ {A : Type 0} where
   -- the refusal, if there is one

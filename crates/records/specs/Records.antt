@@ -12,7 +12,7 @@ use Rattle.history.specs.Working as working
 use Rattle.history.specs.Working.{State, record_signature}
 use Rattle.cpp.specs.Heads.{head_code, head_from}
 use Rattle.records.specs.declared.record.Record.{Record}
-use Rattle.records.specs.declared.record.Signature.{Signature}
+use Rattle.walk.specs.declared.signature.Signature.{Signature}
 
 -- what is kept of a verdict: no fault, or its layer, number and place
 abbrev pub kept_of : Verdict → Blame

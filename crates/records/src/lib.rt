@@ -6,4 +6,5 @@ pub mod fault;
 pub mod record;
 
 pub use fault::{Checked, Fault};
-pub use record::{Record, Signature};
+pub use record::Record;
+pub use walk::Signature;

@@ -7,17 +7,10 @@ ghost use Rattle.records.specs.Records.{kept_of};
 
 use crate::fault::Fault;
 use levels::search::Named;
-use walk::Verdict;
-
-// The name and the packed head of a sheet.
-#[derive(Clone, Copy)]
-pub struct Signature {
-    pub name: u16,
-    pub head: u64,
-}
+use walk::{Signature, Verdict};
 
 // What the book keeps of a filled sheet: of its last put the name with the packed head and the place of END; whether it is due,
-// and the verdict of its last walk.
+// and the verdict of its last walk. (A mark beside the verdict, and no Option of it: a sheet that becomes due keeps its verdict until a check.)
 #[derive(Clone, Copy)]
 pub struct Record {
     pub signature: Signature,

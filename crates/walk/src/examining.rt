@@ -6,6 +6,7 @@ ghost use Rattle.walk.specs.Examined.{recorded, examined, Leaves, Decides};
 
 use crate::params::{head_of, repeated_parameter};
 use crate::running::run;
+use crate::signature::Signature;
 use crate::verdict::{Refusal, Verdict};
 use frames::{Formed, form};
 use levels::store::{Declaring, Looking};
@@ -17,32 +18,31 @@ const PLACES: usize = 256;
 // So many variables may stand at once.
 const ROOM: usize = 256;
 
-// The sheet that the frames form, if it has this name and head, and no parameter twice. Name and head stay two parameters: the book takes them from two fields of a record, and a pair made for the call would be no plainer.
+// The sheet that the frames form, if it has this signature, and no parameter twice.
 #[tactic(auto, using(crate::proofs::RepeatPlaces::twice_found))]
-fn as_recorded(frames: &[Frame], name: u16, head: u64) -> Option<Formed>
-    ensures test { is_some result ≡ recorded frames.now name head }
+fn as_recorded(frames: &[Frame], signature: Signature) -> Option<Formed>
+    ensures test { is_some result ≡ recorded frames.now signature.name signature.head }
     ensures sheet { IfSome result (λ s. frames_of s ≡ frames.now) }
 {
     let mut sheet = Formed::new();
     form(frames, &mut sheet).ok()?;
-    if sheet.name() != name || head_of(&sheet) != head {
+    if sheet.name() != signature.name || head_of(&sheet) != signature.head {
         return None;
     }
     repeated_parameter(&sheet).is_none().then_some(sheet)
 }
 
-// Walks a sheet that its record gives this name and head: its types into the column, or the first violation, or that the frames were altered.
+// Walks a sheet that its record gives this signature: its types into the column, or the first violation, or that the frames were altered.
 pub fn examine<H: Looking<u64>, S: Declaring<u8>>(
     frames: &[Frame],
-    name: u16,
-    head: u64,
+    signature: Signature,
     column: &mut [u8],
     heads: &H,
     variables: &mut S,
 ) -> Result<Verdict, Refusal>
-    ensures result { result ≡ examined (length column.old) (S.Looking.meaning variables.old).capacity (recorded frames.now name head) (outcome (H.Looking.meaning heads.now).levels frames.now) }
-    ensures leaves { Leaves column.old column.new (S.Looking.meaning variables.old) (S.Looking.meaning variables.new) (recorded frames.now name head) (outcome (H.Looking.meaning heads.now).levels frames.now) }
-    ensures law { Decides (H.Looking.meaning heads.now).levels frames.now (length column.old) (S.Looking.meaning variables.old).capacity (recorded frames.now name head) result column.new (S.Looking.meaning variables.new).levels }
+    ensures result { result ≡ examined (length column.old) (S.Looking.meaning variables.old).capacity (recorded frames.now signature.name signature.head) (outcome (H.Looking.meaning heads.now).levels frames.now) }
+    ensures leaves { Leaves column.old column.new (S.Looking.meaning variables.old) (S.Looking.meaning variables.new) (recorded frames.now signature.name signature.head) (outcome (H.Looking.meaning heads.now).levels frames.now) }
+    ensures law { Decides (H.Looking.meaning heads.now).levels frames.now (length column.old) (S.Looking.meaning variables.old).capacity (recorded frames.now signature.name signature.head) result column.new (S.Looking.meaning variables.new).levels }
 {
     if column.len() != PLACES {
         return Err(Refusal::OtherColumn);
@@ -51,7 +51,7 @@ pub fn examine<H: Looking<u64>, S: Declaring<u8>>(
         return Err(Refusal::SmallStore);
     }
     column.fill(0);
-    let Some(sheet) = as_recorded(frames, name, head) else {
+    let Some(sheet) = as_recorded(frames, signature) else {
         return Ok(Verdict::Altered);
     };
     Ok(run(&sheet, column, heads, variables))

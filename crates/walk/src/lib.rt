@@ -10,10 +10,12 @@ mod operands;
 pub mod params;
 mod place;
 mod running;
+pub mod signature;
 pub mod theorems;
 mod variables;
 pub mod verdict;
 
 pub use examining::examine;
 pub use params::{head_of, repeated_parameter};
+pub use signature::Signature;
 pub use verdict::{Refusal, Verdict};

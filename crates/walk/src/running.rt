@@ -11,7 +11,8 @@ use crate::verdict::Verdict;
 use frames::Formed;
 use levels::store::{Declaring, Looking};
 
-// Walks a sheet that has no parameter twice: its types into the blank column, or the first violation.
+// Walks a sheet that has no parameter twice: its types into the blank column, or the first violation. (The capacity of a lent store is no
+// fact of a type: in a struct, the store that the lender gets back would not be known.)
 pub(crate) fn run<H: Looking<u64>, S: Declaring<u8>>(
     sheet: &Formed,
     column: &mut [u8],

@@ -2,6 +2,7 @@
 use rules::Violation;
 
 // The sheet is valid; or its frame at the place violates a rule; or its frames are not those that its record tells of.
+// (No Result: a faulty sheet was examined all the same, and `examine` keeps that apart from a refusal.)
 #[derive(Clone, Copy, PartialEq, Eq, Debug)]
 pub enum Verdict {
     Valid,

@@ -4,9 +4,9 @@ use levels::entry::Entry;
 use levels::pile::Pile;
 use levels::store::{Declaring, Looking};
 use syntax::Frame;
-use walk::{Refusal, Verdict, examine};
+use walk::{Refusal, Signature, Verdict, examine};
 
-// A frame of these four fields.
+// A frame of these four fields. (The tests of the book have the same one; a crate for both would hold nothing else.)
 pub fn frame(kind: u8, t: u8, name: u16, load: u32) -> Frame {
     Frame {
         kind,
@@ -47,10 +47,10 @@ fn examined<H: Declaring<u64>, S: Declaring<u8>>(
 ) -> (usize, usize) {
     let _ = heads.enter();
     let _ = heads.declare(name, head);
-    told(examine(frames, name, head, column, heads, variables))
+    told(examine(frames, Signature { name, head }, column, heads, variables))
 }
 
-// The same with piles.
+// The same with piles. (It and the next stay two: each makes its stores over entries that are lent here; what follows is one.)
 pub fn piled(frames: &[Frame], name: u16, head: u64, column: &mut [u8]) -> (usize, usize) {
     let mut room = [used(3u8); 256];
     let mut shelf = [used(5u64); 32];

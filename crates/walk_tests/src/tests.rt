@@ -4,7 +4,7 @@ use frames::{Formed, form};
 use levels::entry::Entry;
 use levels::pile::Pile;
 use syntax::Frame;
-use walk::{examine, head_of};
+use walk::{Signature, examine, head_of};
 
 // int f(int x) packs to this, and void f() to that.
 const INT_OF_INT: u64 = 522;
@@ -100,8 +100,10 @@ fn refused(rt: HostRuntime) {
     assert!(rt;
         told(examine(
             &plus_one(),
-            1,
-            INT_OF_INT,
+            Signature {
+                name: 1,
+                head: INT_OF_INT,
+            },
             &mut column,
             &heads,
             &mut variables,

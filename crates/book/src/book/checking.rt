@@ -1,18 +1,20 @@
 // The check of a book.
-ghost use Rattle.std.specs.Prelude.{◌≡◌, length};
+ghost use Rattle.std.specs.Prelude.{◌≡◌, true, length, IfErr};
 ghost use Rattle.history.specs.Calls.{Call.check};
 ghost use Rattle.history.specs.Runs.{Does};
 ghost use Rattle.history.specs.Law.{Law};
 ghost use Rattle.history.specs.Promise.{Promise};
 ghost use Rattle.cpp.specs.Cpp.{cpp};
-ghost use Rattle.records.specs.Answers.{checked_of};
+ghost use Rattle.records.specs.Answers.{checked_of, unnamed};
 ghost use Rattle.book.specs.States.{state, HeadsLeft, VariablesLeft};
 
 use super::Book;
-use crate::numbers::ROOM;
 use levels::store::{Declaring, Looking};
 use records::{Checked, Fault};
 use syntax::Frame;
+
+// So many entries a store must have room for.
+const ROOM: usize = 256;
 
 impl Book {
     // Walks every sheet that is due, and answers how many and the fault of the lowest faulty sheet, walked now or before.
@@ -27,6 +29,7 @@ impl Book {
         ensures heads { HeadsLeft (state self.old frames.now column.old) (H.Looking.meaning heads.old) result (H.Looking.meaning heads.new) }
         ensures variables { VariablesLeft (state self.old frames.now column.old) (S.Looking.meaning variables.old) result (S.Looking.meaning variables.new) }
         ensures history { Promise cpp (state self.old frames.now column.old) (check (length frames.now) (length column.old) (H.Looking.meaning heads.old).capacity (S.Looking.meaning variables.old).capacity) (checked_of result) (state self.new frames.now column.new) }
+        ensures unnamed { IfErr result (λ e. unnamed e ≡ true) }
         ensures law { Law cpp }
     {
         let Some(frames) = frames.as_array() else {

@@ -1,5 +1,5 @@
 // The edits of a book: a new one, fresh, put, clear and post.
-ghost use Rattle.std.specs.Prelude.{◌≡◌, ℕ, List, ◌++◌, length};
+ghost use Rattle.std.specs.Prelude.{◌≡◌, ℕ, true, List, length, IfErr};
 ghost use Rattle.syntax.specs.declared.frame.Frame.{Frame as Frames};
 ghost use Rattle.history.specs.Calls.{Call.put, Call.clear, Call.post};
 ghost use Rattle.history.specs.Working.{new_book};
@@ -9,7 +9,7 @@ ghost use Rattle.history.specs.Promise.{Promise};
 ghost use Rattle.cpp.specs.Cpp.{cpp};
 ghost use Rattle.cpp.specs.Text.{lines_read};
 ghost use Rattle.cpp.specs.Reading.{filled_with};
-ghost use Rattle.records.specs.Answers.{refusal_of, edited};
+ghost use Rattle.records.specs.Answers.{refusal_of, edited, unnamed};
 ghost use Rattle.records.specs.Sheets.{sheet_from};
 ghost use Rattle.book.specs.States.{state};
 
@@ -37,6 +37,7 @@ impl Book {
     // Empties the book and sets both areas to 0.
     pub fn fresh(&mut self, frames: &mut [Frame], column: &mut [u8]) -> Result<(), Fault>
         ensures does { Freshens cpp (state self.old frames.old column.old) (refusal_of result) (state self.new frames.new column.new) }
+        ensures unnamed { IfErr result (λ e. unnamed e ≡ true) }
         ensures history { FreshMade cpp (state self.old frames.old column.old) (refusal_of result) (state self.new frames.new column.new) }
     {
         let Some(frames) = frames.as_mut_array::<AREA>() else {

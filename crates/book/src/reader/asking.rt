@@ -5,7 +5,7 @@ ghost use Rattle.history.specs.Promise.{QuestionPromise};
 ghost use Rattle.cpp.specs.Sheet.{expression};
 ghost use Rattle.cpp.specs.Cpp.{cpp};
 ghost use Rattle.records.specs.Answers.{asked_of};
-ghost use Rattle.book.specs.States.{valid_state};
+ghost use Rattle.book.specs.States.{read_state};
 
 use super::Reader;
 use crate::sheet::Sheet;
@@ -23,8 +23,8 @@ fn is_expression(frame: Frame) -> bool
 impl Reader<'_> {
     // The type of the expression that ends at a place of a sheet: the column's number there, if it is one of a type.
     pub fn type_at(&self, sheet: u8, place: usize) -> Result<Option<Type>, Fault>
-        ensures result { asked_of result ≡ asked cpp (valid_state self.now.table.now self.now.frames.now self.now.column.now) sheet place }
-        ensures history { QuestionPromise cpp (valid_state self.now.table.now self.now.frames.now self.now.column.now) sheet place (asked_of result) }
+        ensures result { asked_of result ≡ asked cpp (read_state self.now) sheet place }
+        ensures history { QuestionPromise cpp (read_state self.now) sheet place (asked_of result) }
     {
         let sheet = Sheet::try_from(sheet)?;
         let Some(record) = self.table.at(sheet) else {

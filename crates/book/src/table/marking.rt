@@ -23,7 +23,8 @@ fn head_for(name: u16, signature: Option<Signature>) -> Option<u64>
     }
 }
 
-// Whether the frame calls a name to which the new signature gives another head than the old, or none, or its first.
+// Whether the frame calls a name to which the new signature gives another head than the old, or none, or its first. (Old and new stay two
+// parameters: they are only compared, and a pair of them would name each once more.)
 fn calls_another(frame: Frame, old: Option<Signature>, new: Option<Signature>) -> bool
     ensures { result ≡ (frame.kind == CALL && differ (head_for frame.name (signed old)) (head_for frame.name (signed new))) }
 {

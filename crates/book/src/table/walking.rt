@@ -19,7 +19,8 @@ use records::{Fault, Record, Signature};
 use walk::{Verdict, examine};
 
 // Walks one sheet: its types into its part of the column, or the first violation, or that its frames were altered. (A struct of the
-// areas and the stores would be no plainer: both functions would say of each `&mut` in it that it stays the same.)
+// areas and the stores would be no plainer: both functions would say of each `&mut` in it that it stays the same. So the capacity of a lent
+// store is a `requires` here and below.)
 fn walk_sheet<H: Looking<u64>, S: Declaring<u8>>(
     row: Record,
     sheet: Sheet,
@@ -32,10 +33,10 @@ fn walk_sheet<H: Looking<u64>, S: Declaring<u8>>(
     ensures { (h : Heads) → Held h (H.Looking.meaning heads.now).levels → SheetWalked h (part sheet.number frames.now) sheet.number row result column.old column.new (S.Looking.meaning variables.old) (S.Looking.meaning variables.new) }
 {
     let own = own_frames(frames, sheet, row.end);
+    // as a slice, which can be borrowed by parts
     let column = &mut column[..];
     let types = &mut column[sheet.range()];
-    let Signature { name, head } = row.signature;
-    examine(own, name, head, types, heads, variables).unwrap()
+    examine(own, row.signature, types, heads, variables).unwrap()
 }
 
 impl Table {

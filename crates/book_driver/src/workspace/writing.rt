@@ -2,7 +2,7 @@
 ghost use Rattle.std.specs.Prelude.{◌≡◌, ℕ, ◌<◌, List, ◌++◌, length, None, IfOk, OnOk, string_bytes};
 ghost use Rattle.history.specs.Working.{working_reading};
 ghost use Rattle.records.specs.Answers.{refusal_of};
-ghost use Rattle.book.specs.States.{valid_state};
+ghost use Rattle.book.specs.States.{read_state};
 ghost use Rattle.book_driver.specs.Texts.{type_of, type_line, sheet_lines, type_lines, Reported};
 ghost use Rattle.book_driver.specs.Workspaces.{book_of};
 
@@ -19,7 +19,7 @@ fn write_place(
     place: usize,
 ) -> Result<(), AllocError>
     requires { sheet < 32 }
-    ensures { OnOk result (string_bytes text.new ≡ string_bytes text.old ++ type_line sheet place (type_of (valid_state reader.now.table.now reader.now.frames.now reader.now.column.now) sheet place)) }
+    ensures { OnOk result (string_bytes text.new ≡ string_bytes text.old ++ type_line sheet place (type_of (read_state reader.now) sheet place)) }
 {
     match reader.type_at(sheet, place).unwrap() {
         Some(t) => {
@@ -34,7 +34,7 @@ fn write_place(
 #[tactic(auto, using(crate::proofs::TextLaws::sheet_none, crate::proofs::TextLaws::sheet_more))]
 fn write_sheet(text: &mut String, reader: &Reader<'_>, sheet: u8) -> Result<(), AllocError>
     requires { sheet < 32 }
-    ensures { OnOk result (string_bytes text.new ≡ string_bytes text.old ++ sheet_lines (type_of (valid_state reader.now.table.now reader.now.frames.now reader.now.column.now)) sheet 256) }
+    ensures { OnOk result (string_bytes text.new ≡ string_bytes text.old ++ sheet_lines (type_of (read_state reader.now)) sheet 256) }
 {
     for place in 0..256 {
         write_place(text, reader, sheet, place)?;
@@ -47,7 +47,7 @@ impl Workspace {
     #[tactic(auto, using(crate::proofs::ReadLaws::lent_types, crate::proofs::ReadLaws::own_reading))]
     fn reader(&self) -> Result<Reader<'_>, Fault>
         ensures result { refusal_of result ≡ working_reading (book_of self.now) 8192 8192 }
-        ensures types { IfOk result (λ q. type_of (valid_state q.table.now q.frames.now q.column.now) ≡ type_of (book_of self.now)) }
+        ensures types { IfOk result (λ q. type_of (read_state q) ≡ type_of (book_of self.now)) }
     {
         self.book.reader(&self.frames, &self.column)
     }

@@ -1,4 +1,4 @@
-// How it is printed what comes of an input.
+// How it is printed what comes of an input. (By hand and not by a derive of the kit: the reports' contracts need the bytes, `output`.)
 ghost use Rattle.std.specs.Prelude.{Some};
 ghost use Rattle.driver.specs.Texts.{accepted_text, rejected_text};
 
@@ -15,6 +15,7 @@ impl fmt::Display for Accepted {
     }
 }
 
+// Its sheet is the number of a piece, which a diagnostic cannot hold; so it prints the four numbers itself.
 impl fmt::Display for Rejected {
     ghost output = { λ rejected. Some (rejected_text rejected) };
 

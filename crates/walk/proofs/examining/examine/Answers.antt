@@ -12,7 +12,7 @@ returns g c =
     let hs = (g.H.Looking.meaning c.args.heads.now).levels in
     let store = g.S.Looking.meaning c.args.variables.now in
     let o = outcome hs fs in
-    let b = recorded fs c.args.name c.args.head in
+    let b = recorded fs c.args.signature.name c.args.signature.head in
     let n : length col ≡ 256 = c.if-column-ne-PLACES.false in
     let l : 256 ≤ store.capacity = omega (arith, c.capacity.ensures.result, c.if-capacity-lt-ROOM.false) in
     let t : b ≡ true = sym c.in-Some.ensures.test in
@@ -27,5 +27,5 @@ returns g c =
         variables = levels ∙ walked.store_walked (length col) store.capacity b o n l t store refl;
       };
       law = walked.decides_walked hs fs (length col) store.capacity b (Ok c.run.result) c.run.new.column _
-          (walked.recorded_sheet fs c.args.name c.args.head t) (ap Ok verdict) column (ap (λ s. s.levels) levels);
+          (walked.recorded_sheet fs c.args.signature.name c.args.signature.head t) (ap Ok verdict) column (ap (λ s. s.levels) levels);
     }

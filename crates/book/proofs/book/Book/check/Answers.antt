@@ -25,7 +25,7 @@ returns-in_default g c =
     let book = state c.args.self.now c.args.frames.now c.args.column.now in
     let f = refusal 32 255 in
     let d = refused_does book (check fl cl a b) f (check_sizes (working_signatures book) fl cl a b (inl c.in_default.ensures.cases)) in
-    record { does = d; heads = refl {a = g.H.Looking.meaning c.args.heads.now}; variables = refl {a = g.S.Looking.meaning c.args.variables.now}; history = promises.calls book (check fl cl a b) (refused f) book d; law = law }
+    record { does = d; heads = refl {a = g.H.Looking.meaning c.args.heads.now}; variables = refl {a = g.S.Looking.meaning c.args.variables.now}; unnamed = refl; history = promises.calls book (check fl cl a b) (refused f) book d; law = law }
 
 pub returns-in_default-as_mut_array : goal.returns-in_default-as_mut_array
 returns-in_default-as_mut_array g c =
@@ -36,7 +36,7 @@ returns-in_default-as_mut_array g c =
     let book = state c.args.self.now c.args.frames.now c.args.column.now in
     let f = refusal 32 255 in
     let d = refused_does book (check fl cl a b) f (check_sizes (working_signatures book) fl cl a b (inr (c.in-Some.ensures.cases.long, c.in_default-as_mut_array.ensures.cases))) in
-    record { does = d; heads = refl {a = g.H.Looking.meaning c.args.heads.now}; variables = refl {a = g.S.Looking.meaning c.args.variables.now}; history = promises.calls book (check fl cl a b) (refused f) book d; law = law }
+    record { does = d; heads = refl {a = g.H.Looking.meaning c.args.heads.now}; variables = refl {a = g.S.Looking.meaning c.args.variables.now}; unnamed = refl; history = promises.calls book (check fl cl a b) (refused f) book d; law = law }
 
 pub returns-then-capacity-lt-ROOM : goal.returns-then-capacity-lt-ROOM
 returns-then-capacity-lt-ROOM g c =
@@ -62,7 +62,7 @@ returns-then-capacity-lt-ROOM g c =
     let back = state c.args.self.now c.args.frames.now k in
     let d = does_over book c.args.frames.now k refl same (check fl cl a b) (refused f) back
     (refused_does back (check fl cl a b) f (check_rooms (working_signatures book) fl cl a b c.in-Some.ensures.cases.long c.in-Some-as_mut_array.ensures.cases.long small)) in
-    record { does = d; heads = refl {a = g.H.Looking.meaning c.args.heads.now}; variables = refl {a = g.S.Looking.meaning c.args.variables.now}; history = promises.calls book (check fl cl a b) (refused f) back d; law = law }
+    record { does = d; heads = refl {a = g.H.Looking.meaning c.args.heads.now}; variables = refl {a = g.S.Looking.meaning c.args.variables.now}; unnamed = refl; history = promises.calls book (check fl cl a b) (refused f) back d; law = law }
 
 pub walk_due-walked-requires : goal.walk_due-walked-requires
 walk_due-walked-requires g c =
@@ -107,6 +107,7 @@ returns g c =
       does = d;
       heads = c.declare_heads.ensures;
       variables = w.variables ∙ variables_same rs false v fs k s ∙ ap₂ (λ f q. variables_left (state_of rs v f q) s) same_f same_k;
+      unnamed = tt;
       history = promises.calls book call (checked n o) left d;
       law = law;
     }
