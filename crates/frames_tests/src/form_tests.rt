@@ -135,6 +135,7 @@ fn a_sheet_tells_its_parameters(rt: HostRuntime) {
 
 #[test]
 fn types_and_numbers(rt: HostRuntime) {
+    // a range: the numbers are what is tried
     for n in 1..6u8 {
         assert_eq!(rt; Type::try_from(n).map(u8::from), Ok(n));
     }

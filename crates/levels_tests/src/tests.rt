@@ -29,6 +29,7 @@ fn deepens<S: Declaring<u8>>(rt: &impl Abort, s: &mut S) -> Result<(), Fail> {
     assert_eq!(rt; number_of(s.declare(0, 1)), 43);
     assert_eq!(rt; s.look(7), None);
     assert!(rt; !s.here(7));
+    // a count, and no list to walk; so are the ranges below: the numbers are what is tried
     for _ in 0..33 {
         s.enter()?;
     }

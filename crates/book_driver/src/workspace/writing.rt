@@ -30,7 +30,7 @@ fn write_place(
     }
 }
 
-// Writes the lines of a sheet, in rising order.
+// Writes the lines of a sheet, in rising order. (A range here and below: the reader is asked at each place, and has no list of them.)
 #[tactic(auto, using(crate::proofs::TextLaws::sheet_none, crate::proofs::TextLaws::sheet_more))]
 fn write_sheet(text: &mut String, reader: &Reader<'_>, sheet: u8) -> Result<(), AllocError>
     requires { sheet < 32 }

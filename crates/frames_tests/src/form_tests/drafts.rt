@@ -46,7 +46,7 @@ pub fn formed(frames: &[Frame]) -> Result<usize, Fault> {
     Ok(sheet.count())
 }
 
-// Puts frames without fields, of these kinds, so many times.
+// Puts frames without fields, of these kinds, so many times: a count, and no list to walk.
 fn put_times(frames: &mut ArrayVec<Frame, 300>, n: usize, kinds: &[u8]) {
     for _ in 0..n {
         for kind in kinds {

@@ -71,6 +71,7 @@ fn agrees(kind: u8) -> bool {
 
 #[test]
 fn every_kind_and_field(rt: HostRuntime) {
+    // a range: the kinds are what is tried
     for kind in 0..=255u8 {
         assert!(rt; agrees(kind), "{}", kind);
     }
