@@ -46,10 +46,10 @@ def functions():
                 if depth == 0:
                     break
             params = re.findall(r"(\w+):", re.sub(r"<[^<>]*>", "", rest[opening:end + 1]))
-            brace = re.search(r"^ *\{", rest, re.M)
-            clauses = re.findall(r"^ *(requires|ensures)(?: \w+)? \{ (.*) \}\s*;?$", rest[:brace.start()] if brace else rest, re.M)
+            brace = re.search(r"^ *\{|\{ *$", rest[end:], re.M)
+            clauses = re.findall(r"^ *(requires|ensures)(?: \w+)? \{ (.*) \}\s*;?$", rest[:end + brace.start()] if brace else rest, re.M)
             line = t[:m.start()].count("\n") + 1
-            yield f"{f}:{line}", m.group(2), params, clauses, rest[brace.start():] if brace else ""
+            yield f"{f}:{line}", m.group(2), params, clauses, rest[end + brace.start():] if brace else ""
 
 
 def facts():
