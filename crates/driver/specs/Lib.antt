@@ -1,2 +1,4 @@
+pub mod Histories
 pub mod Reports
 pub mod Texts
+pub mod Workspaces

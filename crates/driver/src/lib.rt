@@ -1,12 +1,10 @@
-// Drives the reading over an input: cuts it into pieces, reads and forms each, and says what came of it.
+// Drives the checker over an input: cuts it into pieces, makes of them a book, checks it, and reports what came of it.
 
 #![tactic(auto)]
 
-pub mod outcome;
+mod rejected;
 mod reporting;
-pub mod running;
+mod workspace;
 
 pub use input::cut;
-pub use outcome::{Accepted, Rejected};
 pub use reporting::{report, report_from};
-pub use running::run;

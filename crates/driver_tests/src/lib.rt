@@ -1,4 +1,4 @@
-// What the drivers report, where memory suffices.
+// What the driver reports, where memory suffices.
 
 #![tactic(auto)]
 

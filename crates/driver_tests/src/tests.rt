@@ -1,28 +1,23 @@
 // Reports of texts and of readers, and the reading of an input.
+use driver::{report, report_from};
 use input::{LONGEST, read_input};
 use std::test::*;
 
 const EMPTY_FUNCTION: &[u8] = b"0105000100000000\n0300000000000000\n";
 
-// A text is reported, by both drivers.
+// A text is reported.
 #[test]
 fn a_text_is_reported(rt: HostRuntime) -> Result<(), Fail> {
-    let formed = driver::report(rt.alloc(), EMPTY_FUNCTION)?;
-    assert_eq!(rt; formed.as_str(), "read 1 sheets 2 frames\n");
-    let checked = book_driver::report(rt.alloc(), EMPTY_FUNCTION)?;
-    assert_eq!(rt; checked.as_str(), "valid 1\n");
+    let text = report(rt.alloc(), EMPTY_FUNCTION)?;
+    assert_eq!(rt; text.as_str(), "valid 1\n");
     Ok(())
 }
 
 // So is what a reader gives.
 #[test]
 fn what_a_reader_gives_is_reported(rt: HostRuntime) -> Result<(), Fail> {
-    let mut text = EMPTY_FUNCTION;
-    let formed = driver::report_from(rt.alloc(), &mut text)?;
-    assert_eq!(rt; formed.as_str(), "read 1 sheets 2 frames\n");
-    let mut text = EMPTY_FUNCTION;
-    let checked = book_driver::report_from(rt.alloc(), &mut text)?;
-    assert_eq!(rt; checked.as_str(), "valid 1\n");
+    let text = report_from(rt.alloc(), &mut EMPTY_FUNCTION)?;
+    assert_eq!(rt; text.as_str(), "valid 1\n");
     Ok(())
 }
 

@@ -1,4 +1,4 @@
-// Prints what comes of reading and forming a book's text from standard input.
+// Prints the report on a book's text from standard input.
 
 #![tactic(auto)]
 

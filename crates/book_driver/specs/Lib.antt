@@ -1,4 +1,0 @@
-pub mod Histories
-pub mod Reports
-pub mod Texts
-pub mod Workspaces
