@@ -2,7 +2,7 @@
 use Rattle.std.proofs.Common.{◌≡◌, ℕ, suc, ◌+◌, ◌-◌, ◌<◌, ◌≤◌, min, true, List, [], ◌∷◌, ◌++◌, map, reverse, length, take, drop, set, is_some, sym, refl, ap, ◌∙◌, arith, eqb-true}
 use Rattle.std.proofs.lemmas.List.{drop_all, length-take, length-drop, length-reverse, reverse-append, take-append-drop, take-take, take-set-le, take_more_set, drop-append-le, take-map, drop-map}
 use Rattle.levels.specs.declared.entry.Entry.{Entry}
-use Rattle.levels.specs.Store.{find, looked, stands, standing, added, or_else}
+use Rattle.levels.specs.Store.{find, looked, stands, standing, or_else}
 use Rattle.levels.specs.Search.{newest_of}
 use Rattle.levels.specs.Entries.{pair, names}
 use Rattle.levels.specs.Starts.{ordered}
@@ -38,7 +38,7 @@ module _ {V : Type 0} where
       let r = cut_past ss s i es x (ordered_rest s n ss ok) (omega arith) in
       ap (λ l. reverse (drop s l) ∷ cut ss s (set es i x)) (take-set-le n es i x h) ∙ ap (λ t. reverse (drop s (take n es)) ∷ t) r
 
-  pub cut_claimed : (s : ℕ) (ss : List ℕ) (n : ℕ) (es : List (ℕ × V)) (x : ℕ × V) → ordered (s ∷ ss) n ≡ true → n < length es → cut (s ∷ ss) (n + 1) (set es n x) ≡ added (cut (s ∷ ss) n es) x
+  pub cut_claimed : (s : ℕ) (ss : List ℕ) (n : ℕ) (es : List (ℕ × V)) (x : ℕ × V) → ordered (s ∷ ss) n ≡ true → n < length es → cut (s ∷ ss) (n + 1) (set es n x) ≡ (x ∷ reverse (drop s (take n es))) ∷ cut ss s es
   cut_claimed s ss n es x ok h =
       let k = ordered_top s n ss ok in
       let w : s ≤ length (take n es) = simp length-take (omega arith) in

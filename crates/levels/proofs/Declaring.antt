@@ -6,7 +6,7 @@ use Rattle.levels.specs.declared.entry.Entry.{Entry}
 use Rattle.levels.specs.declared.refusal.Refusal.{Refusal}
 use Rattle.levels.specs.declared.refusal.Refusal.TheVariants.{Repeated, Full}
 use Rattle.levels.specs.Refusals.{no_place, unless, answer, answer_with}
-use Rattle.levels.specs.Store.{Store, declare_refused, declared, with_levels, added, stands}
+use Rattle.levels.specs.Store.{Store, declare_refused, declared, with_levels, added, stands, table}
 use Rattle.levels.specs.Entries.{pair}
 use Rattle.levels.specs.Starts.{ordered}
 use Rattle.levels.specs.Layout.{Layout, grown, cut, store_of}
@@ -33,11 +33,11 @@ module _ (b : Bool) (n c : ℕ) where
   place_level (s ∷ ss) h = omega arith
 
 module _ {V : Type 0} (es : List (Entry V)) (x : Entry V) (b : Bool) where
-  cut_more : (ss : List ℕ) (n : ℕ) → ordered ss n ≡ true → no_place ss b n (length es) ≡ None → n < length es → cut ss (n + 1) (map pair (set es n x)) ≡ added (cut ss n (map pair es)) (pair x)
+  cut_more : (ss : List ℕ) (n : ℕ) → ordered ss n ≡ true → no_place ss b n (length es) ≡ None → n < length es → map table (cut ss (n + 1) (map pair (set es n x))) ≡ added (map table (cut ss n (map pair es))) (pair x)
   cut_more [] n ok h l = cc
   cut_more (s ∷ ss) n ok h l =
       let w : n < length (map pair es) = simp length-map l in
-      ap (cut (s ∷ ss) (n + 1)) (map-set pair es n x) ∙ cut_claimed s ss n (map pair es) (pair x) ok w
+      ap (λ l. map table (cut (s ∷ ss) (n + 1) l)) (map-set pair es n x) ∙ ap (map table) (cut_claimed s ss n (map pair es) (pair x) ok w)
 
 -- what the code of a store learns when the level table answers
 module _ {V : Type 0} (y : Layout) (es : List (Entry V)) (ok : ordered y.starts y.count ≡ true) (k : ℕ) (v : V) (b : Bool) (c : ℕ)

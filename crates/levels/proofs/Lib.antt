@@ -1,4 +1,6 @@
 pub mod Refusing
+pub mod Tabling
+pub mod Rising
 pub mod Starting
 pub mod Reading
 pub mod Searching

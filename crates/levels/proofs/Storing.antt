@@ -6,12 +6,13 @@ use Rattle.levels.specs.declared.entry.Entry.{Entry}
 use Rattle.levels.specs.declared.refusal.Refusal.{Refusal}
 use Rattle.levels.specs.declared.refusal.Refusal.TheVariants.{TooDeep, Repeated, Full}
 use Rattle.levels.specs.Refusals.{too_deep, no_place, unless, answer}
-use Rattle.levels.specs.Store.{Store, enter_refused, declare_refused, entered, with_levels, looked, stands, find}
+use Rattle.levels.specs.Store.{Store, enter_refused, declare_refused, entered, with_levels, looked, stands, find, table}
 use Rattle.levels.specs.Search.{newest_of}
 use Rattle.levels.specs.Entries.{pair, names, value_at}
 use Rattle.levels.specs.Starts.{ordered}
 use Rattle.levels.specs.Layout.{Layout, no_levels, opened, closed, without_top, top_of, on_top, cut, store_of}
 use Rattle.levels.proofs.Refusing.{unless_through}
+use Rattle.levels.proofs.Tabling.{looked_tables, stands_tables, standing_tables}
 use Rattle.levels.proofs.Starting.{ordered_top}
 use Rattle.levels.proofs.Reading.{value_nth_take}
 use Rattle.levels.proofs.Searching.{newest_low}
@@ -36,13 +37,13 @@ module _ {V : Type 0} (y : Layout) (es : List (Entry V)) where
   s = store_of y es
 
   enter_refused_by : too_deep y.starts ≡ enter_refused s
-  enter_refused_by = sym (ap (λ n. cond (ltb n 33) None (Some TooDeep)) (length_cut y.starts y.count (map pair es)))
+  enter_refused_by = sym (ap (λ n. cond (ltb n 33) None (Some TooDeep)) (length-map (cut y.starts y.count (map pair es)) table ∙ length_cut y.starts y.count (map pair es)))
 
   entered_by : (y' : Layout) → y' ≡ opened y → store_of y' es ≡ entered s
   entered_by y' e =
       ap (λ z. store_of z es) e
       ∙ unless_through (λ z. store_of z es) (too_deep y.starts) (record { starts = y.count ∷ y.starts; count = y.count }) y
-      ∙ ap (λ ls. unless (too_deep y.starts) (with_levels s ls) s) (cut_opened y.starts y.count (map pair es))
+      ∙ ap (λ ls. unless (too_deep y.starts) (with_levels s (map table ls)) s) (cut_opened y.starts y.count (map pair es))
       ∙ ap (λ o. unless o (with_levels s ([] ∷ s.levels)) s) enter_refused_by
 
 -- whether there is room does not depend on entries that do not stand
@@ -56,7 +57,8 @@ room_by n l =
 module _ {V : Type 0} (y : Layout) (es : List (Entry V)) (ok : ordered y.starts y.count ≡ true) (k : ℕ) where
   looked_by : value_at es (newest_of (names (take y.count es)) k) ≡ looked (store_of y es).levels k
   looked_by =
-      sym (looked_cut y.starts y.count (map pair es) k ok
+      sym (looked_tables (cut y.starts y.count (map pair es)) k
+      ∙ looked_cut y.starts y.count (map pair es) k ok
       ∙ ap (λ l. find (reverse l) k) (take-map pair y.count es)
       ∙ find_newest (take y.count es) k
       ∙ part (newest_of (names (take y.count es)) k) (λ i h. let w = newest_low (names (take y.count es)) k i h in let l = length-map (take y.count es) (λ e. e.name) in omega arith))
@@ -70,24 +72,24 @@ module _ {V : Type 0} (y : Layout) (es : List (Entry V)) (ok : ordered y.starts 
       ap (λ b. no_place y.starts b y.count c) h
       ∙ ap (λ c. no_place y.starts (stands (store_of y es).levels k) y.count c) q
       ∙ by_starts y.starts (stands (store_of y es).levels k) y.count
-      ∙ sym (ap (λ n. no_place (store_of y es).levels (stands (store_of y es).levels k) n (length es)) (standing_cut y.starts y.count (map pair es) ok ∙ ap (min y.count) (length-map es pair)))
+      ∙ sym (ap (λ n. no_place (store_of y es).levels (stands (store_of y es).levels k) n (length es)) (standing_tables (cut y.starts y.count (map pair es)) ∙ standing_cut y.starts y.count (map pair es) ok ∙ ap (min y.count) (length-map es pair)))
     where
-      by_starts : (ss : List ℕ) (b : Bool) (n : ℕ) → no_place ss b n (length es) ≡ no_place (cut ss n (map pair es)) b (min n (length es)) (length es)
+      by_starts : (ss : List ℕ) (b : Bool) (n : ℕ) → no_place ss b n (length es) ≡ no_place (map table (cut ss n (map pair es))) b (min n (length es)) (length es)
       by_starts [] b n = refl
       by_starts (s ∷ ss) b n = ap (λ t. cond b (Some Repeated) (cond t None (Some Full))) (room_by n (length es))
 
 -- what the calls of a store learn from the calls on its table and its search
 module _ {V : Type 0} (ss : List ℕ) (n : ℕ) (es : List (Entry V)) (k : ℕ) (p : Option ℕ) (at : p ≡ newest_of (names (take n es)) k) where
-  pub look_by : (r : Option V) → ordered ss n ≡ true → r ≡ value_at es p → r ≡ looked (cut ss n (map pair es)) k
+  pub look_by : (r : Option V) → ordered ss n ≡ true → r ≡ value_at es p → r ≡ looked (map table (cut ss n (map pair es))) k
   look_by r ok e = e ∙ ap (value_at es) at ∙ looked_by (record { starts = ss; count = n }) es ok k
 
-  pub here_by : (r : Bool) → r ≡ on_top ss p → r ≡ stands (cut ss n (map pair es)) k
-  here_by r e = e ∙ ap (on_top ss) at ∙ sym (stands_cut ss n es k)
+  pub here_by : (r : Bool) → r ≡ on_top ss p → r ≡ stands (map table (cut ss n (map pair es))) k
+  here_by r e = e ∙ ap (on_top ss) at ∙ sym (stands_tables (cut ss n (map pair es)) k ∙ stands_cut ss n es k)
 
 module _ {V : Type 0} (ss : List ℕ) (n : ℕ) (es : List (Entry V)) where
-  pub enter_by : (r : Result (Unit {0}) Refusal) → r ≡ answer (too_deep ss) → r ≡ answer (too_deep (cut ss n (map pair es)))
+  pub enter_by : (r : Result (Unit {0}) Refusal) → r ≡ answer (too_deep ss) → r ≡ answer (too_deep (map table (cut ss n (map pair es))))
   enter_by r e = e ∙ ap answer (enter_refused_by (record { starts = ss; count = n }) es)
 
   pub enters_by : (ss' : List ℕ) (n' : ℕ) → ◌≡◌ {A = Layout} (record { starts = ss'; count = n' }) (opened (record { starts = ss; count = n }))
-      → ◌≡◌ {A = Store V} (record { capacity = length es; levels = cut ss' n' (map pair es) }) (entered (record { capacity = length es; levels = cut ss n (map pair es) }))
+      → ◌≡◌ {A = Store V} (record { capacity = length es; levels = map table (cut ss' n' (map pair es)) }) (entered (record { capacity = length es; levels = map table (cut ss n (map pair es)) }))
   enters_by ss' n' e = entered_by (record { starts = ss; count = n }) es (record { starts = ss'; count = n' }) e

@@ -4,7 +4,7 @@ use Rattle.levels.specs.declared.entry.Entry.{Entry}
 use Rattle.levels.specs.declared.table.LevelTable.{LevelTable}
 use Rattle.levels.specs.Refusals.{too_deep, unless}
 use Rattle.levels.specs.Entries.{pair}
-use Rattle.levels.specs.Store.{Store}
+use Rattle.levels.specs.Store.{Store, table}
 
 -- where each level starts, newest first, and how many entries stand
 pub record Layout : Type 0 where
@@ -50,11 +50,11 @@ on_top (s ∷ ss) None = false
 on_top (s ∷ ss) (Some i) = nat_le s i
 
 module _ {V : Type 0} where
-  -- the levels whose starts are given, newest first, of the first n entries
+  -- the levels whose starts are given, newest first, of the first n entries; in each the newest entry first
   abbrev pub cut : List ℕ → ℕ → List (ℕ × V) → List (List (ℕ × V))
   cut [] n es = []
   cut (s ∷ ss) n es = reverse (drop s (take n es)) ∷ cut ss s es
 
   -- what a store means whose entries are laid out so
   abbrev pub store_of : Layout → List (Entry V) → Store V
-  store_of y es = record { capacity = length es; levels = cut y.starts y.count (map pair es) }
+  store_of y es = record { capacity = length es; levels = map table (cut y.starts y.count (map pair es)) }

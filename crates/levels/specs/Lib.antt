@@ -1,5 +1,6 @@
 pub mod Refusals
 pub mod Store
+pub mod Tables
 pub mod Search
 pub mod Entries
 pub mod Starts

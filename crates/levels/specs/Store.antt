@@ -1,9 +1,9 @@
 -- What a store of names means, and what each call on it answers and leaves.
-use Rattle.std.specs.Prelude.{ℕ, ◌+◌, Bool, false, cond, List, [], ◌∷◌, length, is_some, Some, None, Option, ◌==◌}
+use Rattle.std.specs.Prelude.{ℕ, ◌+◌, Bool, false, cond, List, [], ◌∷◌, length, is_some, Some, None, Option, ◌==◌, nat_le}
 use Rattle.levels.specs.declared.refusal.Refusal.{Refusal}
 use Rattle.levels.specs.Refusals.{too_deep, none_to_leave, no_place, unless}
 
--- how many entries may stand, and the levels: the newest level first, and in each the newest entry first
+-- how many entries may stand, and the levels, the newest first; each is a table, its entries by rising name
 pub record Store (V : Type 0) : Type 0 where
   pub capacity : ℕ
   pub levels : List (List (ℕ × V))
@@ -14,7 +14,17 @@ module _ {V : Type 0} where
   or_else (Some v) o = Some v
   or_else None o = o
 
-  -- a level as a table: the value of a name
+  -- a table with an entry more, at its name's place
+  abbrev pub placed : ℕ × V → List (ℕ × V) → List (ℕ × V)
+  placed e [] = e ∷ []
+  placed e (f ∷ fs) = cond (nat_le e.0 f.0) (e ∷ (f ∷ fs)) (f ∷ placed e fs)
+
+  -- the table of entries that came one after another, the newest first
+  abbrev pub table : List (ℕ × V) → List (ℕ × V)
+  table [] = []
+  table (e ∷ es) = placed e (table es)
+
+  -- the value of a name in a table
   abbrev pub find : List (ℕ × V) → ℕ → Option V
   find [] n = None
   find (e ∷ es) n = cond (e.0 == n) (Some e.1) (find es n)
@@ -42,7 +52,7 @@ module _ {V : Type 0} where
   -- the levels with an entry more on the top
   abbrev pub added : List (List (ℕ × V)) → ℕ × V → List (List (ℕ × V))
   added [] e = []
-  added (l ∷ ls) e = (e ∷ l) ∷ ls
+  added (l ∷ ls) e = placed e l ∷ ls
 
   -- a store with other levels; the capacity never changes
   abbrev pub with_levels : Store V → List (List (ℕ × V)) → Store V

@@ -11,3 +11,4 @@ pub mod search;
 pub mod slices;
 pub mod store;
 pub mod table;
+pub mod tables;

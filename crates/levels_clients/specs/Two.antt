@@ -1,13 +1,13 @@
 -- What is left of a store after a wipe, a level and two names, and what is answered.
 use Rattle.std.specs.Prelude.{ℕ, [], ◌∷◌, Option, Result}
 use Rattle.levels.specs.declared.refusal.Refusal.{Refusal}
-use Rattle.levels.specs.Store.{Store, entered, wiped, declared, declare_refused, looked, with_levels, or_else}
+use Rattle.levels.specs.Store.{Store, entered, wiped, declared, declare_refused, looked, with_levels, table, or_else}
 use Rattle.levels.specs.Refusals.{answer_with, unless}
 
 module _ {V : Type 0} (s : Store V) (a : ℕ) (x : V) (b : ℕ) (y : V) where
   -- one level with both names
   abbrev pub both : Store V
-  both = with_levels s (((b, y) ∷ ((a, x) ∷ [])) ∷ [])
+  both = with_levels s (table ((b, y) ∷ ((a, x) ∷ [])) ∷ [])
 
   -- one level, empty
   abbrev started : Store V

@@ -5,6 +5,7 @@ use Rattle.levels.specs.declared.refusal.Refusal.{Refusal}
 use Rattle.levels.specs.declared.refusal.Refusal.TheVariants.{Repeated, Full}
 use Rattle.levels.specs.Refusals.{unless, answer}
 use Rattle.levels.specs.Store.{Store, find, with_levels, wiped, entered, enter_refused, declared, declare_refused, added}
+use Rattle.levels.proofs.Tabling.{length_placed}
 use Rattle.walk.specs.Judge.{Numbers}
 use Rattle.history.specs.Language.{Signatures, head_for}
 use Rattle.history.proofs.Words.{lowest_none}
@@ -49,7 +50,7 @@ few_heads (suc k) g = longer (g k) (few_heads k g)
   where
     longer : (o : Option (ℕ × ℕ)) → length (heads_below k g) ≤ k → length (with_signature o (heads_below k g)) ≤ suc k
     longer None l = omega arith
-    longer (Some x) l = omega arith
+    longer (Some x) l = let h = length_placed x (heads_below k g) in omega arith
 
 -- the heads with one sheet more
 heads_more : (k : ℕ) (g : Signatures) (o : Option (ℕ × ℕ)) → g k ≡ o → heads_below (k + 1) g ≡ with_signature o (heads_below k g)

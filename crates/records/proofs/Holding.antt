@@ -6,6 +6,7 @@ use Rattle.std.proofs.lemmas.Bool.{and_parts, eqb-true, eq-eqb, leb-true}
 use Rattle.syntax.specs.Types.{type_of}
 use Rattle.levels.specs.Store as store
 use Rattle.levels.specs.Store.{find, looked}
+use Rattle.levels.proofs.Tabling.{find_placed}
 use Rattle.heads.specs.Heads.{parameters_of}
 use Rattle.rules.proofs.Rows.{none_some}
 use Rattle.walk.specs.Judge.{Numbers}
@@ -50,7 +51,7 @@ head_once rs apart n t u x e ne =
 pub find_more : (o : Option (ℕ × ℕ)) (l : Numbers) (n : ℕ) → find (with_signature o l) n ≡ or_else (head_for n o) (find l n)
 find_more None l n = refl
 find_more (Some p) l n =
-    elim (eqb p.0 n) as (λ b. cond b (Some p.1) (find l n) ≡ or_else (cond b (Some p.1) None) (find l n)) [ true ↦ refl | false ↦ refl ]
+    find_placed p l n ∙ elim (eqb p.0 n) as (λ b. cond b (Some p.1) (find l n) ≡ or_else (cond b (Some p.1) None) (find l n)) [ true ↦ refl | false ↦ refl ]
 
 -- of two answers one is none, so their order does not matter
 either_order : {X : Type 0} (o w : Option X) → ((x : X) → o ≡ Some x → w ≡ None) → or_else o w ≡ or_else w o

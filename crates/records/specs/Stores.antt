@@ -1,7 +1,7 @@
 -- What a check leaves in the two stores: every head, and the variables of the last walk.
 use Rattle.std.specs.Prelude.{ℕ, zero, suc, cond, List, [], ◌∷◌, take, Some, None, Ok, Err, Option, Result}
 use Rattle.syntax.specs.declared.frame.Frame.{Frame}
-use Rattle.levels.specs.Store.{Store, with_levels}
+use Rattle.levels.specs.Store.{Store, placed, with_levels}
 use Rattle.rules.specs.Walk.{walk_sheet}
 use Rattle.walk.specs.Judge.{Numbers}
 use Rattle.walk.specs.Tied.{walk_levels}
@@ -16,9 +16,9 @@ use Rattle.cpp.specs.Cpp.{cpp}
 -- a level with the signature, if there is one
 abbrev pub with_signature : Option (ℕ × ℕ) → Numbers → Numbers
 with_signature None l = l
-with_signature (Some p) l = p ∷ l
+with_signature (Some p) l = placed p l
 
--- the names and heads of the sheets below k, the last one first
+-- the names and heads of the sheets below k
 unfoldable pub heads_below : ℕ → Signatures → Numbers
 heads_below zero g = []
 heads_below (suc k) g = with_signature (g k) (heads_below k g)

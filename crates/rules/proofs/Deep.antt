@@ -15,7 +15,7 @@ use Rattle.rules.specs.Faults.{◌>>=◌, placed}
 use Rattle.rules.specs.Judge.{judge_variable, judge_update, judge_call, judge_binary, judge_assign, judge_init, judge_name, judge_return, judge_condition}
 use Rattle.rules.specs.Walk.{Naming, idle, naming, State, alone, newest, before_newest, await, move_name, move, walk, start}
 use Rattle.rules.specs.Bounds.{levels_left}
-use Rattle.rules.proofs.Moves.{Passes, passes_judged, length_added, length_keep}
+use Rattle.rules.proofs.Moves.{Passes, passes_judged, length_extended, length_keep}
 
 length_below : (Γ : Levels) (n : ℕ) → length Γ ≡ suc n → length (below Γ) ≡ n
 length_below [] n h = absurd (omega arith)
@@ -119,7 +119,7 @@ module _ (S : Signature) (r : Ty) (k : ℕ) where
   along_params : (ps : List Parameter) (ms : List Token) (s : State) → length s.levels ≤ k → ((t : State) → Even s t → Along ms t) → Along (write_params ps ms) s
   along_params [] ms s h g = g s refl
   along_params (p ∷ ps) ms s h g =
-      let e = length_added s.levels (p.name, p.t) in
+      let e = length_extended s.levels (p.name, p.t) in
       along_more (PARAM p.t p.name) (write_params ps ms) s h (along_params ps ms _ (omega (arith, h, e)) (λ t i. g t (i ∙ e)))
 
   pub along_definition : (d : Definition) → 1 + depths d.body ≤ k → Along (write_definition d []) start

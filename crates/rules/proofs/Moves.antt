@@ -4,12 +4,12 @@ use Rattle.syntax.specs.declared.frame.«Type».{«Type» as Ty}
 use Rattle.syntax.specs.declared.frame.«Type».TheVariants.{Void}
 use Rattle.syntax.specs.declared.stages.Unfinished.{Unfinished}
 use Rattle.syntax.specs.Writing.{Token, HEAD, PARAM, END, DO, DECL, NAME, INIT, RETV, RET, OPEN, CLOSE, WHILE, IF, LITERAL, VARIABLE, CALL, UPDATE, BINARY, ASSIGN}
-use Rattle.levels.specs.Store.{standing, added, below}
+use Rattle.levels.specs.Store.{standing, below}
 use Rattle.rules.specs.declared.violation.Violation.{Violation}
 use Rattle.rules.specs.Heads.{Signature, Levels}
 use Rattle.rules.specs.Faults.{◌>>=◌}
 use Rattle.rules.specs.Judge.{judge_variable, judge_update, judge_call, judge_binary, judge_assign, judge_init, judge_name, judge_return, judge_condition}
-use Rattle.rules.specs.Walk.{Naming, idle, naming, State, state, alone, newest, before_newest, keep, await, move_name, move}
+use Rattle.rules.specs.Walk.{Naming, idle, naming, State, state, alone, newest, before_newest, extended, keep, await, move_name, move}
 
 -- P holds of the state after a frame that passes
 abbrev pub Passes : (State → Type 0) → Result State Violation → Type 0
@@ -21,21 +21,21 @@ passes_judged P (Ok a) f h = h a
 passes_judged P (Err v) f h = tt
 
 -- ===== levels =====
-pub length_added : (Γ : Levels) (e : ℕ × Ty) → length (added Γ e) ≡ length Γ
-length_added [] e = refl
-length_added (τ ∷ Γ) e = refl
+pub length_extended : (Γ : Levels) (e : ℕ × Ty) → length (extended Γ e) ≡ length Γ
+length_extended [] e = refl
+length_extended (τ ∷ Γ) e = refl
 
 pub length_keep : (own : Truth) (Γ : Levels) (x : ℕ) (t : Ty) → length (keep own Γ x t) ≡ length Γ
 length_keep true Γ x t = refl
-length_keep false Γ x t = length_added Γ (x, t)
+length_keep false Γ x t = length_extended Γ (x, t)
 
-standing_added : (Γ : Levels) (e : ℕ × Ty) → standing (added Γ e) ≤ suc (standing Γ)
-standing_added [] e = omega arith
-standing_added (τ ∷ Γ) e = omega arith
+standing_extended : (Γ : Levels) (e : ℕ × Ty) → standing (extended Γ e) ≤ suc (standing Γ)
+standing_extended [] e = omega arith
+standing_extended (τ ∷ Γ) e = omega arith
 
 standing_keep : (own : Truth) (Γ : Levels) (x : ℕ) (t : Ty) → standing (keep own Γ x t) ≤ suc (standing Γ)
 standing_keep true Γ x t = omega arith
-standing_keep false Γ x t = standing_added Γ (x, t)
+standing_keep false Γ x t = standing_extended Γ (x, t)
 
 standing_below : (Γ : Levels) → standing (below Γ) ≤ standing Γ
 standing_below [] = omega arith
@@ -66,7 +66,7 @@ grown_name x s (naming t k earlier) =
 
 pub move_grown : (S : Signature) (r : Ty) (m : Token) (s : State) → Passes (Grown s) (move S r m s)
 move_grown S r (HEAD t f n) s = grown s 0 _ ([] ∷ s.levels) _ idle (omega arith)
-move_grown S r (PARAM t x) s = grown s 0 _ (added s.levels (x, t)) _ idle (standing_added s.levels (x, t))
+move_grown S r (PARAM t x) s = grown s 0 _ (extended s.levels (x, t)) _ idle (standing_extended s.levels (x, t))
 move_grown S r END s = same_levels s 0 _ _ idle
 move_grown S r DO s = same_levels s 0 _ _ idle
 move_grown S r (DECL t n) s = grown_await s s.operands s.levels s.unfinished t n [] (omega arith)

@@ -8,7 +8,7 @@ use Rattle.syntax.specs.declared.stages.Unfinished.TheVariants.{Block, Loop, Cho
 use Rattle.syntax.specs.Writing.{Token, HEAD, PARAM, END, DO, DECL, NAME, INIT, RETV, RET, OPEN, CLOSE, WHILE, IF, LITERAL, VARIABLE, CALL, UPDATE, BINARY, ASSIGN, type_code, blank}
 use Rattle.syntax.specs.Types.{type_of}
 use Rattle.syntax.specs.Form.{finish}
-use Rattle.levels.specs.Store.{added, below}
+use Rattle.levels.specs.Store.{below}
 use Rattle.rules.specs.declared.violation.Violation.{Violation}
 use Rattle.rules.specs.Heads.{Signature, Levels}
 use Rattle.rules.specs.Faults.{Fault, ◌>>=◌, placed}
@@ -46,9 +46,14 @@ newest os = slice_index_or os 0 Void
 abbrev pub before_newest : List Ty → Ty
 before_newest os = slice_index_or os 1 Void
 
+-- the levels with an entry more on the top
+abbrev pub extended : Levels → ℕ × Ty → Levels
+extended [] e = []
+extended (τ ∷ Γ) e = (e ∷ τ) ∷ Γ
+
 -- the levels with x declared on the top, or unaltered where the statement stands alone
 abbrev pub keep : Truth → Levels → ℕ → Ty → Levels
-keep own Γ x t = cond own Γ (added Γ (x, t))
+keep own Γ x t = cond own Γ (extended Γ (x, t))
 
 -- a frame that is no expression, and one that ends an expression of the type t
 abbrev pub passed : State → List Ty → Levels → List Unfinished → State
@@ -72,7 +77,7 @@ move_name x s (naming t k earlier) =
 -- what a frame does in a function that returns r, or what it violates
 abbrev pub move : Signature → Ty → Token → State → Result State Violation
 move S r (HEAD t f n) s = Ok (passed s s.operands ([] ∷ s.levels) s.unfinished)
-move S r (PARAM t x) s = Ok (passed s s.operands (added s.levels (x, t)) s.unfinished)
+move S r (PARAM t x) s = Ok (passed s s.operands (extended s.levels (x, t)) s.unfinished)
 move S r END s = Ok (passed s s.operands s.levels s.unfinished)
 move S r DO s = Ok (passed s (drop 1 s.operands) s.levels (finish s.unfinished))
 move S r (DECL t n) s = Ok (await (0 ∷ s.column) s.operands s.levels s.unfinished t n [])

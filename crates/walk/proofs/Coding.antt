@@ -6,13 +6,15 @@ use Rattle.syntax.specs.declared.frame.«Type».{«Type» as Ty}
 use Rattle.syntax.specs.declared.frame.«Type».TheVariants.{Bool, Int, Double, String, Void}
 use Rattle.syntax.specs.Writing.{type_code}
 use Rattle.levels.specs.Store.{find, looked, or_else, stands, added, below}
+use Rattle.levels.proofs.Tabling.{find_placed}
 use Rattle.rules.specs.declared.violation.Violation.{Violation}
 use Rattle.rules.specs.declared.violation.Violation.TheVariants.{Undeclared, OtherOperands, OtherAssigned}
 use Rattle.rules.specs.Heads.{Table, Levels}
 use Rattle.rules.specs.Faults.{◌>>=◌, need, require}
+use Rattle.rules.specs.Walk.{extended}
 use Rattle.rules.specs.Judge.{arithmetic, same, same_all, judge_variable, judge_update, judge_assign}
 use Rattle.walk.specs.Judge.{equal_all, updated, assigned}
-use Rattle.walk.specs.Tied.{coded, coded_levels}
+use Rattle.walk.specs.Tied.{coded_entry, coded, coded_levels}
 
 -- ===== looking up =====
 abbrev pub coded_option : Option Ty → Option ℕ
@@ -25,7 +27,7 @@ found_coded false t o m h = h
 
 find_coded : (τ : Table Ty) (x : ℕ) → find (coded τ) x ≡ coded_option (find τ x)
 find_coded [] x = refl
-find_coded (e ∷ τ) x = found_coded (eqb e.0 x) e.1 (find τ x) (find (coded τ) x) (find_coded τ x)
+find_coded (e ∷ τ) x = find_placed (coded_entry e) (coded τ) x ∙ found_coded (eqb e.0 x) e.1 (find τ x) (find (coded τ) x) (find_coded τ x)
 
 or_else_coded : (o q : Option Ty) → or_else (coded_option o) (coded_option q) ≡ coded_option (or_else o q)
 or_else_coded None q = refl
@@ -43,7 +45,7 @@ pub stands_coded : (Γ : Levels) (x : ℕ) → stands (coded_levels Γ) x ≡ st
 stands_coded [] x = refl
 stands_coded (τ ∷ Γ) x = ap is_some (find_coded τ x) ∙ some_coded (find τ x)
 
-pub added_coded : (Γ : Levels) (x : ℕ) (t : Ty) → added (coded_levels Γ) (x, type_code t) ≡ coded_levels (added Γ (x, t))
+pub added_coded : (Γ : Levels) (x : ℕ) (t : Ty) → added (coded_levels Γ) (x, type_code t) ≡ coded_levels (extended Γ (x, t))
 added_coded [] x t = refl
 added_coded (τ ∷ Γ) x t = refl
 

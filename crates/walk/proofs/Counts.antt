@@ -1,9 +1,10 @@
 -- How many blocks are unfinished, how many levels and names stand.
-use Rattle.std.proofs.Common.{◌≡◌, ℕ, suc, ◌-◌, ◌<◌, ◌≤◌, Bool as Truth, true, false, cond, ◌||◌, eqb, ltb, List, [], ◌∷◌, map, length, is_some, Some, Option, refl, arith}
+use Rattle.std.proofs.Common.{◌≡◌, ℕ, suc, ◌-◌, ◌<◌, ◌≤◌, Bool as Truth, true, false, cond, ◌||◌, eqb, ltb, List, [], ◌∷◌, map, length, is_some, Some, Option, sym, refl, ap, ◌∙◌, arith}
 use Rattle.syntax.specs.declared.stages.Unfinished.{Unfinished}
 use Rattle.syntax.specs.declared.stages.Unfinished.TheVariants.{Block, Loop, Choice}
 use Rattle.syntax.specs.Form.{finish}
-use Rattle.levels.specs.Store.{standing, stands, added, below, find}
+use Rattle.levels.specs.Store.{standing, stands, added, below, find, placed}
+use Rattle.levels.proofs.Tabling.{find_placed, length_placed}
 use Rattle.rules.specs.Judge.{among}
 use Rattle.rules.specs.Walk.{alone}
 use Rattle.walk.specs.Judge.{Numbers}
@@ -39,7 +40,7 @@ length_added (l ∷ ls) e = refl
 
 pub standing_added : (ls : List Numbers) (e : ℕ × ℕ) → standing (added ls e) ≤ suc (standing ls)
 standing_added [] e = omega arith
-standing_added (l ∷ ls) e = omega arith
+standing_added (l ∷ ls) e = let h = length_placed e l in omega arith
 
 pub length_kept : (u : List Unfinished) (ls : List Numbers) (x t : ℕ) → length (kept u ls x t) ≡ length ls
 length_kept u ls x t = go (alone u)
@@ -83,6 +84,11 @@ stands_top (l ∷ ls) x = go l
     go [] = refl
     go (e ∷ l) = by (eqb e.0 x) (among (level_names l) x) e.1 (find l x) (go l)
 
-pub top_added : (ls : List Numbers) (e : ℕ × ℕ) → 0 < length ls → top_names (added ls e) ≡ e.0 ∷ top_names ls
-top_added [] e n = absurd (omega arith)
-top_added (l ∷ ls) e n = refl
+pub top_added : (ls : List Numbers) (e : ℕ × ℕ) (x : ℕ) → 0 < length ls → among (top_names (added ls e)) x ≡ among (e.0 ∷ top_names ls) x
+top_added [] e x n = absurd (omega arith)
+top_added (l ∷ ls) e x n =
+    sym (stands_top (placed e l ∷ ls) x) ∙ ap is_some (find_placed e l x) ∙ by (eqb e.0 x) e.1 (find l x) ∙ ap (λ b. eqb e.0 x || b) (stands_top (l ∷ ls) x)
+  where
+    by : (b : Truth) (v : ℕ) (o : Option ℕ) → is_some (cond b (Some v) o) ≡ (b || is_some o)
+    by true v o = refl
+    by false v o = refl

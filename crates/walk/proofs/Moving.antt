@@ -15,7 +15,7 @@ use Rattle.rules.specs.declared.violation.Violation.TheVariants.{OtherInitial, R
 use Rattle.rules.specs.Heads.{Signature, Levels}
 use Rattle.rules.specs.Faults.{◌>>=◌, require}
 use Rattle.rules.specs.Judge.{among, same, judge_variable, judge_update, judge_call, judge_binary, judge_assign, judge_condition}
-use Rattle.rules.specs.Walk.{Naming, idle as idle_now, naming as naming_of, State as Walking, alone, newest, before_newest, keep, passed, given, await, move_name, move}
+use Rattle.rules.specs.Walk.{Naming, idle as idle_now, naming as naming_of, State as Walking, alone, newest, before_newest, extended, keep, passed, given, await, move_name, move}
 use Rattle.walk.specs.Judge.{Numbers, arity, operated, updated, assigned}
 use Rattle.walk.specs.Step.{Names, idle, naming, State, state, awaiting, kept, asked, named, stepped, Turn, plain, typed}
 use Rattle.walk.specs.Tied.{coded_levels, Holds}
@@ -78,7 +78,7 @@ module _ (s : Walking) where
 kept_coded : (u : List Unfinished) (Γ : Levels) (x : ℕ) (t : Ty) → kept u (coded_levels Γ) x (type_code t) ≡ coded_levels (keep (alone u) Γ x t)
 kept_coded u Γ x t = go (alone u)
   where
-    go : (b : Truth) → cond b (coded_levels Γ) (added (coded_levels Γ) (x, type_code t)) ≡ coded_levels (cond b Γ (added Γ (x, t)))
+    go : (b : Truth) → cond b (coded_levels Γ) (added (coded_levels Γ) (x, type_code t)) ≡ coded_levels (cond b Γ (extended Γ (x, t)))
     go true = refl
     go false = added_coded Γ x t
 

@@ -15,14 +15,13 @@ use Rattle.rules.specs.declared.violation.Violation.TheVariants.{Repeated, Other
 use Rattle.walk.specs.declared.machine.Declaration.{Declaration}
 use Rattle.walk.specs.Step.{idle, naming, State, state, kept, named, stated}
 use Rattle.walk.specs.Machines.{Awaits, names_of}
-use Rattle.walk.specs.Params.{repeats}
 use Rattle.walk.proofs.Counts.{blocks, blocks_le, blocks_finish, length_added, standing_added, length_kept, standing_kept, length_below, standing_below, stands_top, top_names, top_added}
 use Rattle.walk.proofs.Allowed.{starting_is, params_is, names_is, body_is, exactly_is, begin_is, close_is, end_is, fine_same}
 use Rattle.walk.proofs.Answered.{plain_is, ok_is, asked_is, unless_is, init_is}
 use Rattle.walk.proofs.Agreeing.{Agrees, Agreeing, some_level, no_operands, at_params, at_coming}
 use Rattle.walk.proofs.Shapes.{Goes, goes_typed, goes_simple, goes_begins}
 use Rattle.walk.proofs.Kinded.{Kinded, literal_kinded, update_kinded, binary_kinded}
-use Rattle.walk.proofs.Repeating.{repeats_front}
+use Rattle.walk.proofs.Repeating.{repeats_front, repeats_same}
 use Rattle.walk.proofs.Readies as readies
 
 module _ (cap : ℕ) (room : 256 ≤ cap) (i : ℕ) (fs : List Frame) (s : State) (p : Option Declaration) (l : i < 256) (still : s.names ≡ idle → p ≡ None)
@@ -58,7 +57,7 @@ module _ (cap : ℕ) (room : 256 ≤ cap) (i : ℕ) (fs : List Frame) (s : State
             (subst (λ s. Agreeing (i + 1) fs (await_params (k - 1) u r) s) (sym (ok_is (plain_is _ c s' h)))
             (at_params (i + 1) fs u (state s.operands (added ls (x, type_code t)) s.things idle) (k - 1) r
             (record { things = b.things; deep = length_added ls (x, type_code t) ∙ b.deep; few = omega arith }) a.1 refl a.3
-            (ap (λ n. repeats n (names_of (take (k - 1) fs))) (top_added ls (x, type_code t) (some_level b)) ∙ w.1)));
+            (repeats_same (names_of (take (k - 1) fs)) _ _ (λ y. top_added ls (x, type_code t) y (some_level b)) ∙ w.1)));
       }
 
   pub goes_by : (m : Token) (g : Stage) (u : List Unfinished) (r : ℕ) {φ : Form} → allow i (role m) (frame_of m).load g u r ≡ fine φ → Agrees i (frame_of m ∷ fs) g u r s → Found m φ

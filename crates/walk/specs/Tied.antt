@@ -2,7 +2,7 @@
 use Rattle.std.specs.Prelude.{◌≡◌, ℕ, ◌≤◌, List, map, length, Some, None, Ok, Err, Option, Result}
 use Rattle.syntax.specs.declared.frame.«Type».{«Type» as Ty}
 use Rattle.syntax.specs.Writing.{type_code}
-use Rattle.levels.specs.Store.{looked}
+use Rattle.levels.specs.Store.{table, looked}
 use Rattle.heads.specs.Heads.{packed}
 use Rattle.rules.specs.Heads.{Head, head, Signature, Table, Levels}
 use Rattle.rules.specs.Faults.{Fault, fault}
@@ -10,12 +10,12 @@ use Rattle.walk.specs.declared.verdict.Verdict.{Verdict}
 use Rattle.walk.specs.declared.verdict.Verdict.TheVariants.{Valid, Broken}
 use Rattle.walk.specs.Judge.{Numbers}
 
--- a name with the code of its type, a table of them, and levels
+-- a name with the code of its type; the table that a store has of such entries, and its levels
 abbrev pub coded_entry : ℕ × Ty → ℕ × ℕ
 coded_entry e = (e.0, type_code e.1)
 
 abbrev pub coded : Table Ty → Numbers
-coded τ = map coded_entry τ
+coded τ = table (map coded_entry τ)
 
 abbrev pub coded_levels : Levels → List Numbers
 coded_levels Γ = map coded Γ
