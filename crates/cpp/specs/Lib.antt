@@ -11,4 +11,6 @@ pub mod Reading
 pub mod Tells
 pub mod Judges
 pub mod Samples
+pub mod Script
+pub mod Worked
 pub mod Trial

@@ -11,6 +11,7 @@ ghost use Rattle.cpp.specs.Kinds.{ExpressionsTied, CallsTied};
 ghost use Rattle.cpp.specs.Reading.{ReadsTied};
 ghost use Rattle.cpp.specs.Tells.{SheetsTied};
 ghost use Rattle.cpp.specs.Judges.{JudgeTied};
+ghost use Rattle.cpp.specs.Worked.{WorkedExamples};
 ghost use Rattle.cpp.specs.Trial.{Trial};
 
 // Of every history of calls on a book of CPP sheets since an accepted fresh: what each call answers and leaves, and what a reader then gives.
@@ -53,7 +54,12 @@ pub fn judge_tied()
     ensures law { JudgeTied }
 {}
 
-// Sheets, edits, checks, refusals and texts to try, computed by both books.
+// The worked examples, each on a fresh book: answers, counts of sheets walked, faults, places and types.
+pub fn worked_examples()
+    ensures law { WorkedExamples }
+{}
+
+// Edits, checks, refusals and texts to try, computed by both books.
 pub fn trial()
     ensures law { Trial }
 {}

@@ -3,7 +3,7 @@ ghost use Rattle.std.specs.Prelude.{◌≡◌, ◌≤◌, length};
 ghost use Rattle.levels.specs.Store.{looked};
 ghost use Rattle.rules.specs.declared.violation.Violation.TheVariants.{Undeclared};
 ghost use Rattle.rules.specs.Faults.{need};
-ghost use Rattle.walk.specs.Judge.{arity, operated, called, judge};
+ghost use Rattle.walk.specs.Judge.{arity, numeric, operated, called, judge};
 
 use crate::codes::{BOOL, DOUBLE, INT, STRING};
 use crate::operands::Operands;
@@ -23,6 +23,13 @@ pub(crate) fn parts(frame: Frame) -> usize
     }
 }
 
+// Whether it is the type of a number, int or double.
+fn is_number(t: u8) -> bool
+    ensures { result ≡ numeric t }
+{
+    t == INT || t == DOUBLE
+}
+
 // The type that an operator gives at operands of the types a and b.
 fn operator(kind: u8, a: u8, b: u8) -> Result<u8, Violation>
     requires first { 0x30 ≤ kind }
@@ -31,8 +38,8 @@ fn operator(kind: u8, a: u8, b: u8) -> Result<u8, Violation>
 {
     match kind {
         0x30 if a == b && INT <= a && a <= STRING => Ok(a),
-        0x31..=0x33 if a == b && (a == INT || a == DOUBLE) => Ok(a),
-        0x34 | 0x35 | 0x38 | 0x39 if a == b && (a == INT || a == DOUBLE) => Ok(BOOL),
+        0x31..=0x33 if a == b && is_number(a) => Ok(a),
+        0x34 | 0x35 | 0x38 | 0x39 if a == b && is_number(a) => Ok(BOOL),
         0x36 | 0x37 if a == b && BOOL <= a && a <= DOUBLE => Ok(BOOL),
         0x3A | 0x3B if a == b && a == BOOL => Ok(BOOL),
         _ => Err(Violation::OtherOperands),
@@ -80,7 +87,7 @@ pub(crate) fn type_of<H: Looking<u64>, S: Looking<u8>>(
         0x25 => variable(frame.name, variables),
         0x26 => call(heads.look(frame.name), frame.load, operands),
         0x27..=0x2F => match variable(frame.name, variables)? {
-            t if t == INT || t == DOUBLE => Ok(t),
+            t if is_number(t) => Ok(t),
             _ => Err(Violation::OtherOperands),
         },
         0x30..=0x3B => operator(frame.kind, operands.at(1), operands.at(0)),

@@ -3,6 +3,7 @@ use crate::sheets::*;
 use frames::{Formed, form};
 use levels::entry::Entry;
 use levels::pile::Pile;
+use levels::store::{Declaring, Looking};
 use syntax::Frame;
 use walk::{Signature, examine, head_of};
 
@@ -110,4 +111,59 @@ fn refused(rt: HostRuntime) {
         )) == (2, 0)
     );
     assert!(rt; column[0] == 9);
+}
+
+// void f(int a) { int b; { bool c; { b + c; } } } faults with both blocks open; a valid sheet leaves one level. What stood in the store before is gone.
+#[test]
+fn levels_left(rt: HostRuntime) {
+    let open_blocks = [
+        frame(0x01, 5, 1, 1),
+        frame(0x02, 2, 4, 0),
+        frame(0x11, 2, 0, 1),
+        frame(0x12, 0, 5, 0),
+        frame(0x16, 0, 0, 0),
+        frame(0x11, 1, 0, 1),
+        frame(0x12, 0, 6, 0),
+        frame(0x16, 0, 0, 0),
+        frame(0x25, 0, 5, 0),
+        frame(0x25, 0, 6, 0),
+        frame(0x30, 0, 0, 0),
+        frame(0x10, 0, 0, 0),
+        frame(0x17, 0, 0, 0),
+        frame(0x17, 0, 0, 0),
+        frame(0x03, 0, 0, 0),
+    ];
+    let mut column = [9u8; 256];
+    let mut room = [Entry {
+        name: 0,
+        value: 0u8,
+        next: None,
+    }; 256];
+    let mut shelf = [Entry {
+        name: 0,
+        value: 0u64,
+        next: None,
+    }; 2];
+    let mut variables = Pile::new(&mut room);
+    let heads = Pile::new(&mut shelf);
+    assert!(rt; variables.enter().is_ok() && variables.declare(8, 4).is_ok());
+    let signature = Signature { name: 1, head: 525 };
+    assert!(rt;
+        told(examine(&open_blocks, signature, &mut column, &heads, &mut variables)) == (55, 10)
+    );
+    assert!(rt;
+        variables.look(4) == Some(2) && variables.look(5) == Some(2) && variables.look(6) == Some(1)
+    );
+    assert!(rt; variables.look(8) == None && !variables.here(6));
+    assert!(rt; variables.leave().is_ok() && variables.here(6) && !variables.here(5));
+    assert!(rt; variables.leave().is_ok() && variables.here(5) && variables.here(4));
+    assert!(rt; variables.leave().is_ok() && variables.leave().is_err());
+    let signature = Signature {
+        name: 1,
+        head: INT_OF_INT,
+    };
+    assert!(rt;
+        told(examine(&plus_one(), signature, &mut column, &heads, &mut variables)) == (0, 0)
+    );
+    assert!(rt; variables.here(2) && variables.leave().is_ok() && variables.leave().is_err());
 }

@@ -22,6 +22,7 @@ returns _ =
           record {
             plain_run = refl;
             working_run = refl;
+            working_examples = refl;
             opened = refl;
             short_area = refl;
             literal_typed = refl;
