@@ -1,6 +1,8 @@
 // Reports of texts and of readers, and the reading of an input.
 use driver::{report, report_from};
 use input::{LONGEST, read_input};
+use std::io;
+use std::io::{ErrorKind, Read};
 use std::test::*;
 
 const EMPTY_FUNCTION: &[u8] = b"0105000100000000\n0300000000000000\n";
@@ -30,4 +32,57 @@ fn a_reader_is_read(rt: HostRuntime) -> Result<(), Fail> {
     let read = read_input(rt.alloc(), long.as_slice())?;
     assert_eq!(rt; read.len(), LONGEST + 1);
     Ok(())
+}
+
+// Gives its bytes one at a time, and an error of that kind before each; of another kind only where half of them are left.
+#[derive(Drop)]
+struct Failing {
+    left: &'static [u8],
+    kind: ErrorKind,
+    fails: bool,
+}
+
+impl Failing {
+    fn new(kind: ErrorKind) -> Self {
+        Failing {
+            left: EMPTY_FUNCTION,
+            kind,
+            fails: true,
+        }
+    }
+}
+
+impl Read for Failing {
+    fn read(&mut self, buf: &mut [u8]) -> io::Result<usize> {
+        let now = self.kind == ErrorKind::Interrupted || self.left.len() == 17;
+        if self.fails && now {
+            self.fails = false;
+            return Err(io::Error::new(self.kind, "no byte now"));
+        }
+        self.fails = true;
+        let Some((first, rest)) = self.left.split_first() else {
+            return Ok(0);
+        };
+        let Some(place) = buf.first_mut() else {
+            return Ok(0);
+        };
+        *place = *first;
+        self.left = rest;
+        Ok(1)
+    }
+}
+
+// Reading that is interrupted is tried again.
+#[test]
+fn interrupted_reading_goes_on(rt: HostRuntime) -> Result<(), Fail> {
+    let text = report_from(rt.alloc(), &mut Failing::new(ErrorKind::Interrupted))?;
+    assert_eq!(rt; text.as_str(), "valid 1\n");
+    Ok(())
+}
+
+// Where reading fails after the first line, nothing is reported of that line.
+#[test]
+fn failed_reading_is_not_reported(rt: HostRuntime) {
+    let said = report_from(rt.alloc(), &mut Failing::new(ErrorKind::TimedOut));
+    assert!(rt; said.is_err_and(|e| e.kind() == ErrorKind::TimedOut));
 }

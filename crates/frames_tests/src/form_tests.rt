@@ -1,6 +1,6 @@
 // The form of a sheet: what is accepted, and what is refused where.
 use drafts::*;
-use frames::{Fault, Formed, Frame, Parameter, Type, form};
+use frames::{Diagnostic, Fault, Formed, Frame, Parameter, Type, form};
 
 mod drafts;
 mod fields;
@@ -66,7 +66,33 @@ fn nothing_stands_after_the_end(rt: HostRuntime) {
 fn the_longest_sheet(rt: HostRuntime) {
     assert_eq!(rt; nested(254, b"\x14", b"", 0, b""), Ok(256));
     assert_eq!(rt; nested(255, b"\x14", b"", 0, b""), Err(Fault::TooLong));
-    assert_eq!(rt; nested(256, b"\xFF", b"", 0, b""), Err(Fault::TooLong));
+    assert_eq!(rt; formed(&[UNKNOWN; 300]), Err(Fault::TooLong));
+}
+
+// The number and the place that a host is told of a refusal; the layer is 2, and no sheet is named.
+fn told(answer: Result<usize, Fault>) -> (u8, usize) {
+    match answer.map_err(Diagnostic::from) {
+        Err(
+            Diagnostic {
+                number,
+                layer: 2,
+                sheet: 255,
+                place,
+            },
+        ) => (number, place),
+        _ => (0, 0),
+    }
+}
+
+#[test]
+fn what_refusals_tell(rt: HostRuntime) {
+    assert_eq!(rt; told(formed(&[UNKNOWN; 257])), (20, 256));
+    assert_eq!(rt; told(formed(&[HEAD, UNKNOWN, END])), (21, 1));
+    assert_eq!(rt; told(formed(&[HEAD, head_of(17), END])), (22, 1));
+    assert_eq!(rt; told(formed(&[HEAD, HEAD, END])), (23, 1));
+    assert_eq!(rt; told(nested(33, b"\x16", b"", 33, b"\x17")), (24, 33));
+    assert_eq!(rt; told(formed(&[HEAD, TRUE])), (25, 2));
+    assert_eq!(rt; told(formed(&[HEAD, END, UNKNOWN])), (26, 2));
 }
 
 #[test]

@@ -104,15 +104,17 @@ fn a_full_area_is_asked_before_the_line(rt: HostRuntime) {
 fn what_is_written(rt: HostRuntime) {
     let frames = [SAMPLE; 2];
     let mut text = [7u8; 35];
-    assert!(rt;
-        write(&frames, &mut text[0..33]).is_err(),
+    assert_eq!(rt;
+        write(&frames, &mut text[0..33]).map_err(Diagnostic::from),
+        Err(fault(13, 0)),
         "one byte too few"
     );
     assert!(rt; text[0] == 7 && text[32] == 7, "nothing altered");
-    assert!(rt; write(&frames, &mut text[0..34]).is_ok(), "just enough");
+    assert_eq!(rt; write(&frames, &mut text[0..34]), Ok(34), "just enough");
     assert!(rt; text[0] == b'0' && text[15] == b'F' && text[33] == 10 && text[34] == 7);
-    assert!(rt;
-        write(&frames[0..0], &mut text[0..0]).is_ok(),
+    assert_eq!(rt;
+        write(&frames[0..0], &mut text[0..0]),
+        Ok(0),
         "nothing into nothing"
     );
 }

@@ -1,9 +1,10 @@
 // The input of a program, read as far as an input may go.
-ghost use Rattle.std.specs.Prelude.{◌≡◌, ◌≤◌, take, IfOk, IfSome, vec_len, vec_items};
+ghost use Rattle.std.specs.Prelude.{◌≡◌, ◌≢◌, ◌≤◌, take, IfOk, IfErr, IfSome, vec_len, vec_items};
+ghost use Rattle.std.specs.IoError.{error_kind};
 
 use std::alloc::Global;
 use std::io;
-use std::io::Read;
+use std::io::{ErrorKind, Read};
 
 // So many bytes may an input have.
 pub const LONGEST: usize = 65536;
@@ -17,6 +18,7 @@ where
     R: Drop,
     ensures bound { IfOk result (λ bytes. vec_len bytes ≤ 65537) }
     ensures known { IfOk result (λ bytes. IfSome (R.remaining input) (λ xs. vec_items bytes ≡ take 65537 xs)) }
+    ensures retried { IfErr result (λ e. error_kind e ≢ ErrorKind.Interrupted) }
 {
     let mut bytes = Vec::new(heap);
     input.take(ROOM as u64).read_to_end(&mut bytes)?;
