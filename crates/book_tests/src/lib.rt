@@ -5,6 +5,8 @@
 #[cfg(test)]
 mod sheets;
 #[cfg(test)]
+mod stores;
+#[cfg(test)]
 mod test_book;
 #[cfg(test)]
 mod tests;

@@ -58,6 +58,23 @@ pub fn two(a: u16, b: u16) -> [Frame; 6] {
     ]
 }
 
+// void 3(int 6, int 7) { int 5; { int 4; } return; }
+pub fn declares() -> [Frame; 11] {
+    [
+        frame(0x01, 5, 3, 2),
+        frame(0x02, 2, 6, 0),
+        frame(0x02, 2, 7, 0),
+        frame(0x11, 2, 0, 1),
+        frame(0x12, 0, 5, 0),
+        frame(0x16, 0, 0, 0),
+        frame(0x11, 2, 0, 1),
+        frame(0x12, 0, 4, 0),
+        frame(0x17, 0, 0, 0),
+        frame(0x14, 0, 0, 0),
+        frame(0x03, 0, 0, 0),
+    ]
+}
+
 // void NAME() { NAME(); }
 pub fn own_caller(name: u16) -> [Frame; 4] {
     [

@@ -97,6 +97,15 @@ impl TestBook {
         )
     }
 
+    // A check with a store of heads that has an entry too few.
+    pub fn check_small(&mut self) -> [usize; 5] {
+        let mut entries = [entry(0, 0u64, None); 255];
+        let mut room = [entry(0, 0u8, None); 256];
+        let mut heads = Pile::new(&mut entries);
+        let mut variables = Pile::new(&mut room);
+        self.check_with(&mut heads, &mut variables)
+    }
+
     // The type that a reader over such a column gives.
     pub fn type_short(&self, sheet: u8, place: usize) -> usize {
         self.type_over(&[0; 9], sheet, place)

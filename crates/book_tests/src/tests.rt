@@ -1,20 +1,17 @@
 // What histories of calls answer and leave.
 use crate::sheets::*;
 use crate::test_book::{TestBook, entry};
-use crate::watched::watched_check;
 use frames::Formed;
 use levels::chains::Chains;
-use levels::pile::Pile;
-use levels::store::Looking;
 use std::alloc::Global;
 use std::process::Abort;
 use std::test::*;
 use syntax::Type;
 
-const DONE: [usize; 4] = [0, 0, 0, 0];
+pub const DONE: [usize; 4] = [0, 0, 0, 0];
 
 // A callee on sheet 0 and its caller on sheet 1, checked.
-fn checked_pair(rt: &impl Abort, heap: Global) -> Result<TestBook, Fail> {
+pub fn checked_pair(rt: &impl Abort, heap: Global) -> Result<TestBook, Fail> {
     let mut book = TestBook::new(heap)?;
     assert_eq!(rt; book.put(0, &takes(Type::Double, 8)), DONE);
     assert_eq!(rt; book.put(1, &calls(2)), DONE);
@@ -22,7 +19,7 @@ fn checked_pair(rt: &impl Abort, heap: Global) -> Result<TestBook, Fail> {
     Ok(book)
 }
 
-// A parameter that becomes int is seen by the caller, and so is a callee that goes.
+// A parameter that becomes int is seen by the caller, and so is a callee that goes, and one that comes again.
 #[test]
 fn a_callee_changes(rt: HostRuntime) -> Result<(), Fail> {
     let mut book = checked_pair(&rt, rt.alloc())?;
@@ -31,6 +28,8 @@ fn a_callee_changes(rt: HostRuntime) -> Result<(), Fail> {
     assert_eq!(rt; book.clear(0), DONE);
     assert_eq!(rt; book.check(), [1, 52, 4, 1, 2]);
     assert_eq!(rt; book.check(), [0, 52, 4, 1, 2]);
+    assert_eq!(rt; book.put(5, &takes(Type::Double, 8)), DONE);
+    assert_eq!(rt; book.check(), [2, 0, 0, 0, 0]);
     Ok(())
 }
 
@@ -44,16 +43,25 @@ fn the_same_head(rt: HostRuntime) -> Result<(), Fail> {
     Ok(())
 }
 
-// A head that goes and comes back, on its sheet or another, still counts.
+// A head that goes and comes back, on its sheet or another, still counts: the caller's part of the column is written anew, and no other.
 #[test]
 fn a_head_restored(rt: HostRuntime) -> Result<(), Fail> {
     let mut book = checked_pair(&rt, rt.alloc())?;
     assert_eq!(rt; book.put(0, &takes(Type::Int, 8)), DONE);
     assert_eq!(rt; book.put(0, &takes(Type::Double, 8)), DONE);
     assert_eq!(rt; book.check(), [2, 0, 0, 0, 0]);
+    assert_eq!(rt; book.put(31, &nothing(6)), DONE);
+    assert_eq!(rt; book.check(), [1, 0, 0, 0, 0]);
     assert_eq!(rt; book.clear(0), DONE);
     assert_eq!(rt; book.put(5, &takes(Type::Double, 8)), DONE);
+    for sheet in [0, 1, 5, 31] {
+        book.mark(sheet, 1, 9);
+    }
     assert_eq!(rt; book.check(), [2, 0, 0, 0, 0]);
+    assert_eq!(rt;
+        [0, 1, 5, 31].map(|sheet| book.number(sheet, 1)),
+        [9, 3, 0, 9]
+    );
     Ok(())
 }
 
@@ -125,6 +133,7 @@ fn types_are_read(rt: HostRuntime) -> Result<(), Fail> {
     assert_eq!(rt; book.type_at(1, 2), 5);
     assert_eq!(rt; book.type_at(1, 3), 0);
     assert_eq!(rt; book.type_at(1, 300), 0);
+    assert_eq!(rt; book.type_at(0, 257), 0);
     assert_eq!(rt; book.type_at(2, 1), 0);
     assert_eq!(rt; book.type_at(32, 0), 131);
     assert_eq!(rt; book.clear(1), DONE);
@@ -155,37 +164,75 @@ fn altered_but_not_due(rt: HostRuntime) -> Result<(), Fail> {
     Ok(())
 }
 
-// A due sheet that forms no more, has another name or head, or a parameter twice; and one that is only otherwise written.
+// A due sheet that forms no more, has another name, another head, or a parameter twice: no types, the verdict stays though the frame
+// comes back, until the sheet is due again.
 #[test]
 fn altered_and_due(rt: HostRuntime) -> Result<(), Fail> {
     let mut book = TestBook::new(rt.alloc())?;
-    assert_eq!(rt; book.put(0, &two(6, 7)), DONE);
-    book.alter(0, 5, frame(0x14, 0, 0, 0));
-    assert_eq!(rt; book.check(), [1, 38, 3, 0, 0]);
-    book.alter(0, 5, frame(0x03, 0, 0, 0));
-    assert_eq!(rt; book.check(), [0, 38, 3, 0, 0]);
-    assert_eq!(rt; book.put(0, &two(6, 7)), DONE);
-    assert_eq!(rt; book.check(), [1, 0, 0, 0, 0]);
-    assert_eq!(rt; book.number(0, 3), 2);
+    for (place, from, to) in [
+        (5, frame(0x03, 0, 0, 0), frame(0x14, 0, 0, 0)),
+        (0, frame(0x01, 2, 3, 2), frame(0x01, 2, 9, 2)),
+        (2, frame(0x02, 2, 7, 0), frame(0x02, 1, 7, 0)),
+        (2, frame(0x02, 2, 7, 0), frame(0x02, 2, 6, 0)),
+    ] {
+        assert_eq!(rt; book.put(0, &two(6, 7)), DONE);
+        book.alter(0, place, to);
+        book.mark(0, 3, 2);
+        assert_eq!(rt; book.check(), [1, 38, 3, 0, 0]);
+        assert_eq!(rt; book.number(0, 3), 0);
+        book.alter(0, place, from);
+        assert_eq!(rt; book.check(), [0, 38, 3, 0, 0]);
+        assert_eq!(rt; book.type_at(0, 3), 236);
+        assert_eq!(rt; book.put(0, &two(6, 7)), DONE);
+        assert_eq!(rt; book.check(), [1, 0, 0, 0, 0]);
+        assert_eq!(rt; book.number(0, 3), 2);
+    }
     Ok(())
 }
 
-// The same by another name, head, or parameter name.
+// A due sheet that still forms as recorded is walked as it now stands.
 #[test]
-fn altered_heads(rt: HostRuntime) -> Result<(), Fail> {
+fn altered_within_its_head(rt: HostRuntime) -> Result<(), Fail> {
     let mut book = TestBook::new(rt.alloc())?;
-    assert_eq!(rt; book.put(0, &two(6, 7)), DONE);
-    book.alter(0, 0, frame(0x01, 2, 9, 2));
-    assert_eq!(rt; book.check(), [1, 38, 3, 0, 0]);
-    assert_eq!(rt; book.put(0, &two(6, 7)), DONE);
-    book.alter(0, 2, frame(0x02, 1, 7, 0));
-    assert_eq!(rt; book.check(), [1, 38, 3, 0, 0]);
-    assert_eq!(rt; book.put(0, &two(6, 7)), DONE);
-    book.alter(0, 2, frame(0x02, 2, 6, 0));
-    assert_eq!(rt; book.check(), [1, 38, 3, 0, 0]);
     assert_eq!(rt; book.put(0, &two(6, 7)), DONE);
     book.alter(0, 2, frame(0x02, 2, 9, 0));
     assert_eq!(rt; book.check(), [1, 0, 0, 0, 0]);
+    assert_eq!(rt; book.put(0, &two(6, 7)), DONE);
+    book.alter(0, 3, frame(0x25, 0, 8, 0));
+    assert_eq!(rt; book.check(), [1, 51, 4, 0, 3]);
+    Ok(())
+}
+
+// An altered caller is found only when its callee makes it due; restored, it is walked when it is due again.
+#[test]
+fn an_altered_caller(rt: HostRuntime) -> Result<(), Fail> {
+    let mut book = checked_pair(&rt, rt.alloc())?;
+    book.alter(1, 4, frame(0x14, 0, 0, 0));
+    assert_eq!(rt; book.put(0, &takes(Type::Int, 8)), DONE);
+    assert_eq!(rt; book.check(), [2, 38, 3, 1, 0]);
+    book.alter(1, 4, frame(0x03, 0, 0, 0));
+    assert_eq!(rt; book.check(), [0, 38, 3, 1, 0]);
+    assert_eq!(rt; book.put(0, &takes(Type::Double, 8)), DONE);
+    assert_eq!(rt; book.check(), [2, 0, 0, 0, 0]);
+    Ok(())
+}
+
+// Refused calls between an edit and its check make nothing due and end nothing.
+#[test]
+fn refused_calls_between(rt: HostRuntime) -> Result<(), Fail> {
+    let mut book = checked_pair(&rt, rt.alloc())?;
+    assert_eq!(rt; book.put(0, &takes(Type::Int, 8)), DONE);
+    assert_eq!(rt; book.put(1, &nothing(1)), [33, 3, 1, 0]);
+    assert_eq!(rt; book.put(1, &two(6, 6)), [34, 3, 1, 2]);
+    assert_eq!(rt; book.put_short(0, &Formed::new()), [32, 3, 0, 0]);
+    assert_eq!(rt; book.clear(5), [35, 3, 5, 0]);
+    assert_eq!(rt; book.clear(32), [31, 3, 32, 0]);
+    assert_eq!(rt; book.post(1, b"zz"), [11, 1, 1, 0]);
+    assert_eq!(rt; book.fresh_short(), [32, 3, 255, 0]);
+    assert_eq!(rt; book.check_short(), [99, 32, 3, 255, 0]);
+    assert_eq!(rt; book.check_small(), [99, 39, 3, 255, 0]);
+    assert_eq!(rt; book.type_at(1, 1), 236);
+    assert_eq!(rt; book.check(), [2, 54, 4, 1, 2]);
     Ok(())
 }
 
@@ -194,14 +241,7 @@ fn altered_heads(rt: HostRuntime) -> Result<(), Fail> {
 fn small_stores(rt: HostRuntime) -> Result<(), Fail> {
     let mut book = TestBook::new(rt.alloc())?;
     assert_eq!(rt; book.put(0, &nothing(1)), DONE);
-    let mut entries = [entry(0, 0u64, None); 255];
-    let mut room = [entry(0, 0u8, None); 256];
-    let mut heads = Pile::new(&mut entries);
-    let mut variables = Pile::new(&mut room);
-    assert_eq!(rt;
-        book.check_with(&mut heads, &mut variables),
-        [99, 39, 3, 255, 0]
-    );
+    assert_eq!(rt; book.check_small(), [99, 39, 3, 255, 0]);
     assert_eq!(rt; book.check(), [1, 0, 0, 0, 0]);
     Ok(())
 }
@@ -222,46 +262,6 @@ fn small_variables(rt: HostRuntime) -> Result<(), Fail> {
     Ok(())
 }
 
-// Of two sheets due the higher one was altered: the variables are those of the lower one's walk.
-#[test]
-fn altered_after_a_walk(rt: HostRuntime) -> Result<(), Fail> {
-    let mut book = TestBook::new(rt.alloc())?;
-    assert_eq!(rt; book.put(0, &takes(Type::Double, 8)), DONE);
-    assert_eq!(rt; book.put(3, &two(6, 7)), DONE);
-    book.alter(3, 5, frame(0x14, 0, 0, 0));
-    let mut entries = [entry(0, 0u64, None); 256];
-    let mut room = [entry(0, 0u8, None); 256];
-    let mut heads = Pile::new(&mut entries);
-    let mut variables = Pile::new(&mut room);
-    assert_eq!(rt;
-        book.check_with(&mut heads, &mut variables),
-        [2, 38, 3, 3, 0]
-    );
-    assert_eq!(rt; variables.look(8), Some(3));
-    assert!(rt; variables.look(6).is_none());
-    Ok(())
-}
-
-// The stores after a check: every head, and the levels where the last walk stopped.
-#[test]
-fn stores_left(rt: HostRuntime) -> Result<(), Fail> {
-    let mut book = TestBook::new(rt.alloc())?;
-    assert_eq!(rt; book.put(0, &takes(Type::Double, 8)), DONE);
-    assert_eq!(rt; book.put(2, &deep_fault()), DONE);
-    let mut entries = [entry(0, 0u64, None); 256];
-    let mut room = [entry(0, 0u8, None); 256];
-    let mut heads = Chains::new(&mut entries);
-    let mut variables = Pile::new(&mut room);
-    assert_eq!(rt;
-        book.check_with(&mut heads, &mut variables),
-        [2, 51, 4, 2, 6]
-    );
-    assert!(rt; heads.here(1) && heads.here(4) && !heads.here(2));
-    assert!(rt; variables.look(8).is_some() && variables.look(7).is_some());
-    assert!(rt; !variables.here(7));
-    Ok(())
-}
-
 // Post reads, forms and puts, in this order.
 #[test]
 fn posts(rt: HostRuntime) -> Result<(), Fail> {
@@ -274,27 +274,6 @@ fn posts(rt: HostRuntime) -> Result<(), Fail> {
     );
     assert_eq!(rt; book.post(7, b"0105000100000000\n0300000000000000\n"), DONE);
     assert_eq!(rt; book.check(), [1, 0, 0, 0, 0]);
-    Ok(())
-}
-
-// A third kind of store serves as well; a check with nothing due, or with nothing but an altered sheet, leaves the variables alone.
-#[test]
-fn a_third_store(rt: HostRuntime) -> Result<(), Fail> {
-    let mut book = checked_pair(&rt, rt.alloc())?;
-    let mut entries = [entry(0, 0u64, None); 256];
-    let mut room = [entry(0, 0u8, None); 256];
-    let mut heads = Pile::new(&mut entries);
-    let mut variables = Chains::new(&mut room);
-    assert_eq!(rt;
-        watched_check(&mut book, &mut heads, &mut variables),
-        [0, 0, 0, 0, 0, 4, 0]
-    );
-    assert_eq!(rt; book.put(3, &two(6, 7)), DONE);
-    book.alter(3, 5, frame(0x14, 0, 0, 0));
-    assert_eq!(rt;
-        watched_check(&mut book, &mut heads, &mut variables),
-        [1, 38, 3, 3, 0, 5, 0]
-    );
     Ok(())
 }
 
