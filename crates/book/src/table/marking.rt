@@ -1,5 +1,5 @@
 // The marks on the callers of a name whose head changes.
-ghost use Rattle.std.specs.Prelude.{◌≡◌, ◌==◌, ℕ, ◌&&◌, ◌<◌, None, slice_index_or};
+ghost use Rattle.std.specs.Prelude.{◌≡◌, ◌==◌, ℕ, ◌&&◌, ◌<◌, None, IsTrue, slice_index_or};
 ghost use Rattle.history.specs.Language.{head_for, differ};
 ghost use Rattle.history.specs.Areas.{part};
 ghost use Rattle.records.specs.Records.{signed, calls_changed, marked_record};
@@ -23,6 +23,13 @@ fn head_for(name: u16, signature: Option<Signature>) -> Option<u64>
     }
 }
 
+// Whether the new signature is the old: then every name has the head that it had.
+fn stays(old: Option<Signature>, new: Option<Signature>) -> bool
+    ensures { IsTrue result → signed old ≡ signed new }
+{
+    old == new
+}
+
 // Whether the frame calls a name to which the new signature gives another head than the old, or none, or its first. (Old and new stay two
 // parameters: they are only compared, and a pair of them would name each once more.)
 fn calls_another(frame: Frame, old: Option<Signature>, new: Option<Signature>) -> bool
@@ -39,13 +46,19 @@ fn calls_changed(frames: &[Frame], old: Option<Signature>, new: Option<Signature
 }
 
 impl Table {
-    // Marks each filled sheet whose frames call a name that the change of one sheet's signature gives another head.
+    // Marks each filled sheet whose frames call a name that the change of one sheet's signature gives another head. (Frames are looked through
+    // only where some name's head changes, and not of a sheet that is due already.)
     pub(crate) fn mark(&mut self, frames: &Frames, old: Option<Signature>, new: Option<Signature>)
         ensures { (t : ℕ) → t < 32 → slice_index_or self.new.records t None ≡ marked_record (signed old) (signed new) (part t frames.now) (slice_index_or self.old.records t None) }
     {
+        if stays(old, new) {
+            return;
+        }
         for (t, slot) in self.records.iter_mut().enumerate() {
             if let Some(record) = slot {
-                if calls_changed(own_frames(frames, Sheet::at(t), record.end), old, new) {
+                if !record.due
+                    && calls_changed(own_frames(frames, Sheet::at(t), record.end), old, new)
+                {
                     record.due = true;
                 }
             }
