@@ -1,10 +1,14 @@
 -- The links of entries when one more is declared and when the newest goes.
-use Rattle.std.proofs.Common.{◌≡◌, ℕ, ◌+◌, ◌<◌, ◌≤◌, List, length, get_or, Some, None, Option, set, replicate, sym, ap, ◌∙◌, subst, arith}
+use Rattle.std.proofs.Common.{◌≡◌, ℕ, ◌+◌, ◌<◌, ◌≤◌, Bool, List, length, get_or, Some, None, Ok, Option, set, sym, ap, ◌∙◌, subst, arith}
 use Rattle.std.proofs.lemmas.List.{map-set, length-map, length-set, get_or-map}
 use Rattle.levels.specs.declared.entry.Entry.{Entry}
 use Rattle.levels.specs.Entries.{names, nexts}
 use Rattle.levels.specs.Linked.{bucket, Threaded, Headed}
-use Rattle.levels.proofs.Linking.{threaded_more, threaded_less, threaded_none, headed_more, headed_less, headed_none}
+use Rattle.levels.specs.Refusals.{no_place, answer_with}
+use Rattle.levels.specs.Layout.{Layout, grown}
+use Rattle.levels.proofs.Refusing.{answer_given, answer_is}
+use Rattle.levels.proofs.Declaring.{place_low}
+use Rattle.levels.proofs.Linking.{threaded_more, threaded_less, headed_more, headed_less}
 
 -- what chains keep to: as many entries stand as there are at most, and links and heads lead where they should
 pub record Linked {V : Type 0} (es : List (Entry V)) (heads : List (Option ℕ)) (n : ℕ) : Type 0 where
@@ -13,9 +17,6 @@ pub record Linked {V : Type 0} (es : List (Entry V)) (heads : List (Option ℕ))
   pub headed : Headed (names es) heads n
 
 module _ {V : Type 0} (es : List (Entry V)) (heads : List (Option ℕ)) (n : ℕ) where
-  pub linked_none : (heads ≡ replicate 64 None) → n ≡ 0 → Linked es heads n
-  linked_none h z = record { within = omega arith; threaded = threaded_none (names es) (nexts es) n z; headed = headed_none (names es) heads n h z }
-
   pub linked_same : (m : ℕ) → m ≡ n → Linked es heads n → Linked es heads m
   linked_same m e l = let P : ℕ → Type 0 = Linked es heads in subst P (sym e) l
 
@@ -54,3 +55,12 @@ module _ {V : Type 0} (es : List (Entry V)) (heads : List (Option ℕ)) (n : ℕ
         headed = subst (λ hs. H hs m) (sym h)
             (headed_less (names es) (nexts es) heads m (get_or es at d).name (get_or es at d).next nm nx size (omega arith) (l.threaded m (omega arith)) (subst (H heads) q l.headed));
       }
+
+-- an entry that is declared, as the level table and the buckets tell it: at the place that the table gives, linked to the old head of its bucket
+pub declared_linked : {V : Type 0} (y y' : Layout) (es : List (Entry V)) (b : Bool) (c p : ℕ) (heads heads' : List (Option ℕ)) (x : Entry V)
+    → Ok p ≡ answer_with (no_place y.starts b y.count c) y.count → c ≡ length es → y' ≡ grown y → length heads ≡ 64
+    → x.next ≡ get_or heads (bucket x.name) None → heads' ≡ set heads (bucket x.name) (Some p) → Linked es heads y.count → Linked (set es p x) heads' y'.count
+declared_linked y y' es b c p heads heads' x at size more room link head l =
+    let w = place_low b y.count c y.starts (answer_given y.count (no_place y.starts b y.count c) p at) in
+    let e = answer_is y.count (no_place y.starts b y.count c) p at in
+    linked_more es heads y.count heads' p y'.count x room e (omega arith) (ap (λ y. y.count) more) link head l

@@ -6,7 +6,7 @@ use Rattle.levels.specs.declared.entry.Entry.{Entry}
 use Rattle.levels.specs.declared.refusal.Refusal.{Refusal}
 use Rattle.levels.specs.declared.refusal.Refusal.TheVariants.{Repeated, Full}
 use Rattle.levels.specs.Refusals.{no_place, unless, answer, answer_with}
-use Rattle.levels.specs.Store.{Store, declare_refused, declared, with_levels, added, stands, table}
+use Rattle.levels.specs.Store.{Store, declare_refused, declared, with_levels, added, stands, standing, table}
 use Rattle.levels.specs.Entries.{pair}
 use Rattle.levels.specs.Starts.{ordered}
 use Rattle.levels.specs.Layout.{Layout, grown, cut, store_of}
@@ -28,10 +28,6 @@ module _ (b : Bool) (n c : ℕ) where
   place_low [] h = cc
   place_low (s ∷ ss) h = true-ltb n c (sym (by_repeated b h))
 
-  pub place_level : (ss : List ℕ) → no_place ss b n c ≡ None → 0 < length ss
-  place_level [] h = cc
-  place_level (s ∷ ss) h = omega arith
-
 module _ {V : Type 0} (es : List (Entry V)) (x : Entry V) (b : Bool) where
   cut_more : (ss : List ℕ) (n : ℕ) → ordered ss n ≡ true → no_place ss b n (length es) ≡ None → n < length es → map table (cut ss (n + 1) (map pair (set es n x))) ≡ added (map table (cut ss n (map pair es))) (pair x)
   cut_more [] n ok h l = cc
@@ -39,52 +35,42 @@ module _ {V : Type 0} (es : List (Entry V)) (x : Entry V) (b : Bool) where
       let w : n < length (map pair es) = simp length-map l in
       ap (λ l. map table (cut (s ∷ ss) (n + 1) l)) (map-set pair es n x) ∙ ap (map table) (cut_claimed s ss n (map pair es) (pair x) ok w)
 
--- what the code of a store learns when the level table answers
-module _ {V : Type 0} (y : Layout) (es : List (Entry V)) (ok : ordered y.starts y.count ≡ true) (k : ℕ) (v : V) (b : Bool) (c : ℕ)
-    (same : b ≡ stands (store_of y es).levels k) (size : c ≡ length es) where
+-- what a store learns when its level table answers: a refusal is that of the meaning and leaves it, and a place makes the entry stand
+module _ {V : Type 0} (ss : List ℕ) (n : ℕ) (es : List (Entry V)) (k : ℕ) (b : Bool) (c : ℕ) (ok : ordered ss n ≡ true) (ls : List (List (ℕ × V)))
+    (are : ls ≡ map table (cut ss n (map pair es))) (same : b ≡ stands ls k) (size : c ≡ length es) where
+  abbrev y : Layout
+  y = record { starts = ss; count = n }
+
   abbrev s : Store V
-  s = store_of y es
+  s = record { capacity = length es; levels = ls }
 
   abbrev why : Option Refusal
-  why = no_place y.starts b y.count c
-
-  -- the answer and the store of `declare`
-  pub record Declares (r : Result (Unit {0}) Refusal) (after : Store V) : Type 0 where
-    pub result : r ≡ answer (declare_refused s k)
-    pub leaves : after ≡ declared s k v
-
-  -- the place is the next one, within, and on a level
-  pub record Placed (p : ℕ) : Type 0 where
-    pub next : p ≡ y.count
-    pub within : p < length es
-    pub level : 0 < length y.starts
+  why = no_place ss b n c
 
   by : why ≡ declare_refused s k
-  by = declare_refused_by y es ok k b c same size
+  by = declare_refused_by y es ok k b c (same ∙ ap (λ ls. stands ls k) are) size ∙ ap (λ ls. no_place ls (stands ls k) (standing ls) (length es)) (sym are)
 
-  pub declare_not : (e : Refusal) → Err e ≡ answer_with why y.count → Declares (Err e) s
-  declare_not e h =
-      let w : declare_refused s k ≡ Some e = sym by ∙ answer_refused y.count why e h in
-      record { result = sym (ap answer w); leaves = sym (ap (λ o. unless o (with_levels s (added s.levels (k, v))) s) w) }
+  pub refused_by : (e : Refusal) → Err e ≡ answer_with why n → ◌≡◌ {A = Result (Unit {0}) Refusal} (Err e) (answer (declare_refused s k))
+  refused_by e h = sym (ap answer (sym by ∙ answer_refused n why e h))
 
-  pub declare_placed : (p : ℕ) → Ok p ≡ answer_with why y.count → Placed p
-  declare_placed p h =
-      let w = answer_given y.count why p h in
-      let e = answer_is y.count why p h in
-      let l = place_low b y.count c y.starts w in
-      record { next = e; within = omega arith; level = place_level b y.count c y.starts w }
+  pub refused_leaves : (v : V) (e : Refusal) → Err e ≡ answer_with why n → s ≡ declared s k v
+  refused_leaves v e h = sym (ap (λ o. unless o (with_levels s (added s.levels (k, v))) s) (sym by ∙ answer_refused n why e h))
 
-  pub declare_made : (y' : Layout) (p : ℕ) (q : Option ℕ) → y' ≡ grown y → Ok p ≡ answer_with why y.count → Declares (Ok tt) (store_of y' (set es p (record { name = k; value = v; next = q })))
-  declare_made y' p q after h =
+  pub made_by : (p : ℕ) → Ok p ≡ answer_with why n → ◌≡◌ {A = Result (Unit {0}) Refusal} (Ok tt) (answer (declare_refused s k))
+  made_by p h = sym (ap answer (sym by ∙ answer_given n why p h))
+
+  pub made_leaves : (ss' : List ℕ) (n' p : ℕ) (v : V) (q : Option ℕ) → ◌≡◌ {A = Layout} (record { starts = ss'; count = n' }) (grown y) → Ok p ≡ answer_with why n
+      → ◌≡◌ {A = Store V} (store_of (record { starts = ss'; count = n' }) (set es p (record { name = k; value = v; next = q }))) (declared s k v)
+  made_leaves ss' n' p v q after h =
       let x : Entry V = record { name = k; value = v; next = q } in
-      let at = declare_placed p h in
-      let w = answer_given y.count why p h in
-      let w' = ap (λ c. no_place y.starts b y.count c) (sym size) ∙ w in
-      record {
-        result = sym (ap answer (sym by ∙ w));
-        leaves = ap (λ z. store_of z (set es p x)) after
-            ∙ ap (λ i. store_of (grown y) (set es i x)) at.next
-            ∙ ap (λ n. record { capacity = n; levels = (store_of (grown y) (set es y.count x)).levels }) (length-set es y.count x)
-            ∙ ap (with_levels s) (cut_more es x b y.starts y.count ok w' (omega (arith, at.within, at.next)))
-            ∙ sym (ap (λ o. unless o (with_levels s (added s.levels (k, v))) s) (sym by ∙ w));
-      }
+      let w = answer_given n why p h in
+      let e = answer_is n why p h in
+      let low = place_low b n c ss w in
+      ap (λ z. store_of z (set es p x)) after
+      ∙ ap (λ i. store_of (grown y) (set es i x)) e
+      ∙ ap (λ l. record { capacity = l; levels = (store_of (grown y) (set es n x)).levels }) (length-set es n x)
+      ∙ ap (with_levels s) (cut_more es x b ss n ok (ap (λ c. no_place ss b n c) (sym size) ∙ w) (omega (arith, low, size)) ∙ ap (λ ls. added ls (k, v)) (sym are))
+      ∙ sym (ap (λ o. unless o (with_levels s (added s.levels (k, v))) s) (sym by ∙ w))
+
+-- what `declare` of either store goes by
+pub ruleset declaring = (refused_by, refused_leaves, made_by, made_leaves)

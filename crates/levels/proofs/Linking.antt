@@ -110,3 +110,6 @@ threaded_none xs links n z i l = absurd (omega arith)
 -- fewer entries
 pub threaded_less : (xs : List ℕ) (links : List (Option ℕ)) (n m : ℕ) → m ≤ n → Threaded xs links n → Threaded xs links m
 threaded_less xs links n m h t i l = t i (omega arith)
+
+-- what chains go by where no entry stands
+pub ruleset unlinked = (threaded_none, headed_none)

@@ -7,14 +7,14 @@ const BUCKETS: usize = 64;
 
 // A head is the place of the newest entry in its chain, if there is one.
 #[derive(Drop)]
-pub struct Buckets {
+pub(crate) struct Buckets {
     heads: [Option<usize>; BUCKETS],
     ghost size: { length heads ≡ 64 },
 }
 
 impl Buckets {
     // Empty chains.
-    pub fn new() -> Self
+    pub(crate) fn new() -> Self
         ensures result { result.heads ≡ replicate 64 None }
     {
         Buckets {
@@ -23,14 +23,14 @@ impl Buckets {
     }
 
     // The head of the chain that the name belongs to.
-    pub fn head(&self, name: u16) -> Option<usize>
+    pub(crate) fn head(&self, name: u16) -> Option<usize>
         ensures result { result ≡ slice_index_or self.now.heads (bucket name) None }
     {
         self.heads[usize::from(name) % BUCKETS]
     }
 
     // Another head for the chain that the name belongs to.
-    pub fn set_head(&mut self, name: u16, head: Option<usize>)
+    pub(crate) fn set_head(&mut self, name: u16, head: Option<usize>)
         ensures leaves { self.new.heads ≡ slice_set self.old.heads (bucket name) head }
     {
         self.heads[usize::from(name) % BUCKETS] = head;

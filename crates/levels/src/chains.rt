@@ -25,9 +25,9 @@ pub struct Chains<'a, V> {
 
 impl<'a, V: Copy> Chains<'a, V> {
     // A store with no level, whatever the entries hold. It keeps no entry past the first 256.
-    #[tactic(auto, using(crate::proofs::Storing::store_new))]
+    #[tactic(auto, using(crate::proofs::Storing::store_new, crate::proofs::Linking::unlinked))]
     pub fn new(entries: &'a mut [Entry<V>]) -> Self
-        ensures result { store_of (layout result.levels) result.entries.now ≡ record { capacity = min 256 (length entries.old); levels = [] } }
+        ensures result { ⟦<Chains<'a, V> as Looking<V>>⟧.meaning result ≡ record { capacity = min 256 (length entries.old); levels = [] } }
         ensures bound { result.entries.now ≡ take 256 entries.old }
     {
         Chains {
@@ -81,12 +81,13 @@ impl<'a, V: Copy> Looking<V> for Chains<'a, V> {
 }
 
 impl<'a, V: Copy> Declaring<V> for Chains<'a, V> {
+    #[tactic(auto, using(crate::proofs::Linking::unlinked))]
     fn wipe(&mut self) {
         self.levels.wipe();
         self.buckets = Buckets::new();
     }
 
-    #[tactic(auto, using(crate::proofs::Storing::enter_by, crate::proofs::Storing::enters_by))]
+    #[tactic(auto, using(crate::proofs::Storing::entering))]
     fn enter(&mut self) -> Result<(), Refusal> {
         self.levels.enter()
     }
@@ -100,6 +101,7 @@ impl<'a, V: Copy> Declaring<V> for Chains<'a, V> {
         self.levels.leave()
     }
 
+    #[tactic(auto, using(crate::proofs::Declaring::declaring))]
     fn declare(&mut self, name: u16, value: V) -> Result<(), Refusal> {
         let place = self.levels.place(self.here(name), self.capacity())?;
         self.entries[place] = Entry {

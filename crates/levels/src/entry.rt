@@ -1,4 +1,9 @@
 // One name with its value, in memory that a store is lent.
+ghost use Rattle.std.specs.Prelude.{Some};
+
+use crate::search::Named;
+
+// What stands in one place of that memory. A host that lends it may leave anything in it.
 #[derive(Clone, Copy)]
 pub struct Entry<V> {
     pub name: u16,
@@ -7,4 +12,10 @@ pub struct Entry<V> {
     pub next: Option<usize>,
 }
 
-pub use crate::slices;
+impl<V> Named for Entry<V> {
+    ghost label = { λ e. Some e.name };
+
+    fn name(&self) -> Option<u16> {
+        Some(self.name)
+    }
+}

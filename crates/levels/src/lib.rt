@@ -2,13 +2,13 @@
 
 #![tactic(auto)]
 
-pub mod buckets;
+mod buckets;
 pub mod chains;
 pub mod entry;
 pub mod pile;
 pub mod refusal;
 pub mod search;
-pub mod slices;
+mod slices;
 pub mod store;
-pub mod table;
+mod table;
 pub mod tables;

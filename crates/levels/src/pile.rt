@@ -24,7 +24,7 @@ impl<'a, V: Copy> Pile<'a, V> {
     // A store with no level, whatever the entries hold. It keeps no entry past the first 256.
     #[tactic(auto, using(crate::proofs::Storing::store_new))]
     pub fn new(entries: &'a mut [Entry<V>]) -> Self
-        ensures result { store_of (layout result.levels) result.entries.now ≡ record { capacity = min 256 (length entries.old); levels = [] } }
+        ensures result { ⟦<Pile<'a, V> as Looking<V>>⟧.meaning result ≡ record { capacity = min 256 (length entries.old); levels = [] } }
         ensures bound { result.entries.now ≡ take 256 entries.old }
     {
         Pile {
@@ -34,6 +34,7 @@ impl<'a, V: Copy> Pile<'a, V> {
     }
 
     // The place of the newest standing entry with the name.
+    #[tactic(auto, using(crate::proofs::Storing::place_by))]
     fn place_of(&self, name: u16) -> Option<usize>
         ensures result { result ≡ newest_of (names (take (layout self.now.levels).count self.now.entries.now)) name }
     {
@@ -64,7 +65,7 @@ impl<'a, V: Copy> Declaring<V> for Pile<'a, V> {
         self.levels.wipe();
     }
 
-    #[tactic(auto, using(crate::proofs::Storing::enter_by, crate::proofs::Storing::enters_by))]
+    #[tactic(auto, using(crate::proofs::Storing::entering))]
     fn enter(&mut self) -> Result<(), Refusal> {
         self.levels.enter()
     }
@@ -73,6 +74,7 @@ impl<'a, V: Copy> Declaring<V> for Pile<'a, V> {
         self.levels.leave()
     }
 
+    #[tactic(auto, using(crate::proofs::Declaring::declaring))]
     fn declare(&mut self, name: u16, value: V) -> Result<(), Refusal> {
         let place = self.levels.place(self.here(name), self.capacity())?;
         self.entries[place] = Entry {

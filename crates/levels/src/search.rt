@@ -3,7 +3,6 @@ ghost use Rattle.std.specs.Prelude.{◌≡◌, ℕ, map, Option, Some, None};
 ghost use Rattle.std.specs.Option.{option_and_then};
 ghost use Rattle.levels.specs.Search.{newest_labelled, Newest};
 
-use crate::entry::Entry;
 use syntax::Frame;
 
 // What may have a name.
@@ -12,14 +11,6 @@ pub trait Named {
 
     fn name(&self) -> Option<u16>
         ensures result { result ≡ label self.now };
-}
-
-impl<V> Named for Entry<V> {
-    ghost label = { λ e. Some e.name };
-
-    fn name(&self) -> Option<u16> {
-        Some(self.name)
-    }
 }
 
 impl Named for Frame {

@@ -8,7 +8,8 @@ use crate::entry::Entry;
 const CAPACITY: usize = 256;
 
 // The entries that a store may use: the first 256, or all if there are fewer.
-pub fn usable<V>(entries: &mut [Entry<V>]) -> &mut [Entry<V>]
+#[tactic(auto, using(std::proofs::lemmas::List::take_min))]
+pub(crate) fn usable<V>(entries: &mut [Entry<V>]) -> &mut [Entry<V>]
     ensures result { result.now ≡ take 256 entries.old }
 {
     let count = CAPACITY.min(entries.len());
@@ -16,7 +17,7 @@ pub fn usable<V>(entries: &mut [Entry<V>]) -> &mut [Entry<V>]
 }
 
 // The value of the entry at a place, if there is one.
-pub fn value_at<V: Copy>(entries: &[Entry<V>], place: Option<usize>) -> Option<V>
+pub(crate) fn value_at<V: Copy>(entries: &[Entry<V>], place: Option<usize>) -> Option<V>
     ensures result { result ≡ value_at entries.now place }
 {
     Some(entries.get(place?)?.value)

@@ -11,7 +11,7 @@ const MOST_LEVELS: usize = 33;
 
 // The starts of the levels, the oldest first, and how many entries stand.
 #[derive(Drop)]
-pub struct LevelTable {
+pub(crate) struct LevelTable {
     starts: ArrayVec<usize, MOST_LEVELS>,
     count: usize,
     ghost sound: { ordered (reverse starts.items) count ≡ true },
@@ -20,7 +20,7 @@ pub struct LevelTable {
 impl LevelTable {
     ghost use Rattle.levels.specs.Layout.{layout, no_levels, opened, closed, grown, top_of, top_or, on_top};
 
-    pub fn new() -> Self
+    pub(crate) fn new() -> Self
         ensures result { layout result ≡ no_levels }
     {
         LevelTable {
@@ -30,28 +30,28 @@ impl LevelTable {
     }
 
     // How many entries stand.
-    pub fn count(&self) -> usize
+    pub(crate) fn count(&self) -> usize
         ensures result { result ≡ (layout self.now).count }
     {
         self.count
     }
 
     // Where the top level starts.
-    pub fn top(&self) -> Option<usize>
+    pub(crate) fn top(&self) -> Option<usize>
         ensures result { result ≡ top_of (layout self.now).starts }
     {
         self.starts.last().copied()
     }
 
     // Whether a place is on the top level.
-    pub fn on_top(&self, place: Option<usize>) -> bool
+    pub(crate) fn on_top(&self, place: Option<usize>) -> bool
         ensures result { result ≡ on_top (layout self.now).starts place }
     {
         matches!((self.top(), place), (Some(start), Some(i)) if i >= start)
     }
 
     // No level is left.
-    pub fn wipe(&mut self)
+    pub(crate) fn wipe(&mut self)
         ensures leaves { layout self.new ≡ no_levels }
     {
         self.starts.clear();
@@ -59,7 +59,7 @@ impl LevelTable {
     }
 
     // A level more, which starts at the count.
-    pub fn enter(&mut self) -> Result<(), Refusal>
+    pub(crate) fn enter(&mut self) -> Result<(), Refusal>
         ensures result { result ≡ answer (too_deep (layout self.old).starts) }
         ensures leaves { layout self.new ≡ opened (layout self.old) }
     {
@@ -71,7 +71,7 @@ impl LevelTable {
     }
 
     // The top level goes with its entries.
-    pub fn leave(&mut self) -> Result<(), Refusal>
+    pub(crate) fn leave(&mut self) -> Result<(), Refusal>
         ensures result { result ≡ answer (none_to_leave (layout self.old).starts) }
         ensures leaves { layout self.new ≡ closed (layout self.old) }
     {
@@ -80,7 +80,7 @@ impl LevelTable {
     }
 
     // The place for one more entry on the top level, unless its name is repeated there or the entries are used up.
-    pub fn place(&self, repeated: bool, capacity: usize) -> Result<usize, Refusal>
+    pub(crate) fn place(&self, repeated: bool, capacity: usize) -> Result<usize, Refusal>
         ensures result { result ≡ answer_with (no_place (layout self.now).starts repeated (layout self.now).count capacity) (layout self.now).count }
     {
         if self.starts.is_empty() {
