@@ -16,7 +16,7 @@ pub struct Single<V> {
 
 impl<V: Copy> Single<V> {
     pub fn new() -> Self
-        ensures result { single result.upper result.lower result.held ≡ record { capacity = 1; levels = [] } }
+        ensures result { ⟦<Single<V> as Looking<V>>⟧.meaning result ≡ record { capacity = 1; levels = [] } }
     {
         Single {
             upper: 0,

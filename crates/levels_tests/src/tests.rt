@@ -6,7 +6,7 @@ use levels::entry::Entry;
 use levels::pile::Pile;
 use levels::refusal::Refusal;
 use levels::store::{Declaring, Looking};
-use levels_clients::declare_two;
+use levels_clients::{declare_two, look_either};
 use std::process::Abort;
 use std::test::Fail;
 
@@ -81,6 +81,24 @@ fn counts_levels<S: Declaring<u8>>(rt: &impl Abort, s: &mut S) -> Result<(), Fai
     shadows(rt, s)
 }
 
+// A name is seen from a level above it, also name 0, and again once that level is left; a name equal modulo 64 is another.
+fn sees_through<S: Declaring<u8>>(rt: &impl Abort, s: &mut S) -> Result<(), Fail> {
+    s.wipe();
+    s.enter()?;
+    s.declare(0, 5)?;
+    s.enter()?;
+    assert_eq!(rt; s.look(0), Some(5));
+    assert_eq!(rt; s.look(64), None);
+    assert!(rt; !s.here(0));
+    s.leave()?;
+    assert!(rt; s.here(0));
+    assert!(rt; !s.here(64));
+    assert_eq!(rt; look_either(s, 64, 0), Some(5));
+    s.leave()?;
+    assert_eq!(rt; s.look(0), None);
+    Ok(())
+}
+
 // The same calls on two stores.
 fn agree<A: Declaring<u8>, B: Declaring<u8>>(rt: &impl Abort, a: &mut A, b: &mut B) {
     a.wipe();
@@ -120,8 +138,11 @@ fn memory_of_any_length(rt: HostRuntime) -> Result<(), Fail> {
 fn memory_past_the_capacity(rt: HostRuntime) -> Result<(), Fail> {
     let mut lent = [GARBAGE; 300];
     both_fill(&rt, &mut lent, 256)?;
-    assert_eq!(rt; lent[256].value, 99);
-    assert_eq!(rt; lent[299].value, 99);
+    for entry in &lent[256..] {
+        assert_eq!(rt; entry.name, 7);
+        assert_eq!(rt; entry.value, 99);
+        assert_eq!(rt; entry.next, Some(1000));
+    }
     Ok(())
 }
 
@@ -130,6 +151,14 @@ fn names_are_shadowed(rt: HostRuntime) -> Result<(), Fail> {
     let mut lent = [GARBAGE; 3];
     shadows(&rt, &mut Pile::new(&mut lent))?;
     shadows(&rt, &mut Chains::new(&mut lent))
+}
+
+#[test]
+fn names_are_seen_from_above(rt: HostRuntime) -> Result<(), Fail> {
+    let mut lent = [GARBAGE; 1];
+    sees_through(&rt, &mut Pile::new(&mut lent))?;
+    sees_through(&rt, &mut Chains::new(&mut lent))?;
+    sees_through(&rt, &mut Single::new())
 }
 
 #[test]
