@@ -1,8 +1,8 @@
 -- The count of the calls that answered true, call by call.
-use Rattle.std.proofs.Common.{◌≡◌, ℕ, suc, ◌+◌, ◌<◌, Bool, true, false, cond, List, length, get_or, drop, Ok, Result, sym, refl, subst, ap, add-one, arith}
+use Rattle.std.proofs.Common.{◌≡◌, ℕ, suc, ◌+◌, ◌<◌, Bool, true, false, cond, List, length, get_or, drop, Ok, Err, Result, sym, refl, subst, ap, inl, inr, add-one, arith}
 use Rattle.std.proofs.Math.Seq.{drop-cons}
 use Rattle.std.proofs.lemmas.List.{drop_all}
-use Rattle.cases.specs.Agreed.{Agreed}
+use Rattle.cases.specs.Agreed.{Agreed, Stopped}
 
 module _ {F X E : Type 0} (step : F → X → Result Bool E → F → Type 0) (first f : F) (xs : List X) (i n : ℕ)
     (held : (m : ℕ) (last : F) → Agreed step f (drop i xs) m last → Agreed step first xs (n + m) last) where
@@ -33,3 +33,20 @@ module _ {F X E : Type 0} (step : F → X → Result Bool E → F → Type 0) (f
       let none = drop_all i xs (omega arith) in
       let sum : n + 0 ≡ n = omega arith in
       subst (λ j. Agreed step first xs j f) sum (held 0 f (subst (λ ys. Agreed step f ys 0 f) (sym none) (refl, refl)))
+
+-- where the calls stopped at the items from i on, they stopped
+module _ {F X E : Type 0} (step : F → X → Result Bool E → F → Type 0) (first f : F) (xs : List X) (i : ℕ) (e : E)
+    (held : Stopped step f (drop i xs) e → Stopped step first xs e) (f' : F) (d : X) (in' : i < length xs) where
+  -- with the error of the call at the item at i
+  pub failed_there : step f (get_or xs i d) (Err e) f' → Stopped step first xs e
+  failed_there s = held (subst (λ ys. Stopped step f ys e) (sym (drop-cons xs i d in')) (f', inl s))
+
+  -- after a call there that differed
+  pub differed_there : (t : Bool) → t ≡ false → step f (get_or xs i d) (Ok t) f' → Stopped step first xs e
+  differed_there t is s = held (subst (λ ys. Stopped step f ys e) (sym (drop-cons xs i d in')) (f', inr (inl (subst (λ t. step f (get_or xs i d) (Ok t) f') is s))))
+
+  -- after it
+  pub stopped_after : (t : Bool) → step f (get_or xs i d) (Ok t) f' → Stopped step f' (drop (i + 1) xs) e → Stopped step first xs e
+  stopped_after t s h =
+      let others : drop (i + 1) xs ≡ drop (suc i) xs = ap (λ j. drop j xs) (add-one i) in
+      held (subst (λ ys. Stopped step f ys e) (sym (drop-cons xs i d in')) (f', inr (inr (t, s, subst (λ ys. Stopped step f' ys e) others h))))

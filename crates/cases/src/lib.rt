@@ -2,8 +2,8 @@
 
 #![tactic(auto)]
 
-ghost use Rattle.std.specs.Prelude.{IfOk};
-ghost use Rattle.cases.specs.Agreed.{Agreed};
+ghost use Rattle.std.specs.Prelude.{IfOk, IfErr};
+ghost use Rattle.cases.specs.Agreed.{Agreed, Stopped};
 
 use std::io;
 use std::io::Print;
@@ -15,7 +15,8 @@ pub fn count_agreeing<P: Print, F: FnMut(&str) -> io::Result<bool>>(
     mut agrees: F,
 ) -> io::Result<usize>
     requires { F.IsAlwaysCallable agrees }
-    ensures { IfOk result (λ n. (last : F) × Agreed F.step agrees cases.now n last) }
+    ensures ok { IfOk result (λ n. (last : F) × Agreed F.step agrees cases.now n last) }
+    ensures err { IfErr result (λ e. Stopped F.step agrees cases.now e) }
 {
     let mut agreed = 0;
     for &case in cases {
