@@ -1,7 +1,8 @@
 -- What stands in front of a formed sheet's array is what its frames tell.
-use Rattle.std.proofs.Common.{◌≡◌, ℕ, ◌+◌, ◌<◌, ◌≤◌, length, get_or, Some, Result, sym, ap, ◌∙◌, subst, arith}
+use Rattle.std.proofs.Common.{◌≡◌, ℕ, ◌+◌, ◌<◌, ◌≤◌, length, get_or, Some, Ok, Result, sym, ap, ◌∙◌, subst, arith}
 use Rattle.std.proofs.lemmas.List.{get_or-take, length-take-le}
 use Rattle.syntax.specs.declared.frame.Frame.{Frame}
+use Rattle.std.specs.List.{slice_get}
 use Rattle.std.specs.Result.{IsOk}
 use Rattle.syntax.specs.declared.frame.«Type».{«Type» as Ty}
 use Rattle.syntax.specs.declared.frame.UnknownType.{UnknownType}
@@ -11,8 +12,8 @@ use Rattle.syntax.specs.Law.{OfTree}
 use Rattle.frames.specs.declared.formed.Formed.{Formed}
 use Rattle.frames.specs.Sheets.{frames_of}
 use Rattle.syntax.specs.Heads.{head, param_frame, ParamAt}
-use Rattle.syntax.proofs.Types.{type_code_once, decodes_some}
-use Rattle.syntax.proofs.Heads.{head_name, head_type, head_params, two_frames, few_params, params_end, returns_coded, param_coded}
+use Rattle.syntax.proofs.Types.{type_code_once, decodes_some, decodes_type}
+use Rattle.syntax.proofs.Heads.{head_name, head_type, head_params, two_frames, few_params, params_end, returns_coded, param_coded, param_tree}
 
 module _ (s : Formed) where
   length_front : s.count ≡ length (frames_of s)
@@ -64,3 +65,12 @@ module _ (s : Formed) where
         let m : p.0.name ≡ (get_or s.frames (i + 1) blank).name = ap (λ (f : Frame). f.name) (sym f) in
         let q : param_frame p.0 ≡ param_frame (record { t = t; name = (get_or s.frames (i + 1) blank).name }) = λ j. param_frame (record { t = g j; name = m j }) in
         (few, p.1 ∙ q)
+
+    -- the parameter that PARAM tells
+    pub param_read : (r : Result Ty UnknownType) (t : Ty) → Decodes (get_or s.frames (i + 1) blank).t r → r ≡ Ok t → ParamAt (frames_of s) i (Some (record { t = t; name = (get_or s.frames (i + 1) blank).name }))
+    param_read r t h e = param_front t (decodes_type _ r t h e)
+
+    -- it is the tree's
+    pub param_read_tree : (r : Result Ty UnknownType) (t : Ty) → Decodes (get_or s.frames (i + 1) blank).t r → r ≡ Ok t →
+        OfTree (frames_of s) (λ d. slice_get d.params i) (Some (record { t = t; name = (get_or s.frames (i + 1) blank).name }))
+    param_read_tree r t h e = param_tree (frames_of s) i _ (param_read r t h e)

@@ -11,6 +11,7 @@ use syntax::{Frame, Parameter, Type};
 
 impl Formed {
     // The count of frames.
+    #[tactic(auto, using(crate::proofs::Readings::count_bound))]
     pub fn count(&self) -> usize
         ensures result { result ≡ length (frames_of self.now) }
         ensures bound { (2 ≤ result) × (result ≤ 256) }
@@ -19,6 +20,7 @@ impl Formed {
     }
 
     // The sheet's frames: the writing of a tree.
+    #[tactic(auto, using(syntax::proofs::Law::sheet_tree))]
     pub fn frames(&self) -> &[Frame]
         ensures result { result.now ≡ frames_of self.now }
         ensures tree { HasTree result.now }
@@ -35,6 +37,7 @@ impl Formed {
     }
 
     // The name of the definition.
+    #[tactic(auto, using(crate::proofs::Readings::name_tree))]
     pub fn name(&self) -> u16
         ensures result { result ≡ (head (frames_of self.now)).name }
         ensures tree { OfTree (frames_of self.now) (λ d. d.name) result }
@@ -43,6 +46,7 @@ impl Formed {
     }
 
     // The type that it returns.
+    #[tactic(auto, using(crate::proofs::Readings::returns_some, crate::proofs::Readings::returns_tree, syntax::proofs::Types::decodes_type))]
     pub fn returns(&self) -> Type
         ensures result { type_code result ≡ (head (frames_of self.now)).t }
         ensures tree { OfTree (frames_of self.now) (λ d. d.returns) result }
@@ -51,6 +55,7 @@ impl Formed {
     }
 
     // How many parameters it has.
+    #[tactic(auto, using(crate::proofs::Readings::count_few, crate::proofs::Readings::count_tree))]
     pub fn param_count(&self) -> usize
         ensures result { result ≡ (head (frames_of self.now)).load }
         ensures bound { result ≤ 16 }
@@ -60,6 +65,7 @@ impl Formed {
     }
 
     // The parameter at that place, if there are so many.
+    #[tactic(auto, using(crate::proofs::Readings::param_some, crate::proofs::Readings::param_read, crate::proofs::Readings::param_read_tree, syntax::proofs::Heads::param_past))]
     pub fn param(&self, i: usize) -> Option<Parameter>
         ensures result { ParamAt (frames_of self.now) i result }
         ensures tree { OfTree (frames_of self.now) (λ d. slice_get d.params i) result }
