@@ -1,3 +1,4 @@
 pub mod Hex
+pub mod Digits
 pub mod Lines
 pub mod TextLaw

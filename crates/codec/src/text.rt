@@ -11,6 +11,30 @@ const LINE: usize = 17;
 
 const NEWLINE: u8 = b'\n';
 
+// The digits, each at its value.
+static DIGITS: [u8; 16] = *b"0123456789ABCDEF";
+
+// The digit of each byte; 16 for one that is no digit.
+#[rattlefmt::skip]
+static VALUES: [u8; 256] = [
+    16, 16, 16, 16, 16, 16, 16, 16, 16, 16, 16, 16, 16, 16, 16, 16, // 0x00
+    16, 16, 16, 16, 16, 16, 16, 16, 16, 16, 16, 16, 16, 16, 16, 16, // 0x10
+    16, 16, 16, 16, 16, 16, 16, 16, 16, 16, 16, 16, 16, 16, 16, 16, // 0x20
+     0,  1,  2,  3,  4,  5,  6,  7,  8,  9, 16, 16, 16, 16, 16, 16, // 0x30
+    16, 10, 11, 12, 13, 14, 15, 16, 16, 16, 16, 16, 16, 16, 16, 16, // 0x40
+    16, 16, 16, 16, 16, 16, 16, 16, 16, 16, 16, 16, 16, 16, 16, 16, // 0x50
+    16, 16, 16, 16, 16, 16, 16, 16, 16, 16, 16, 16, 16, 16, 16, 16, // 0x60
+    16, 16, 16, 16, 16, 16, 16, 16, 16, 16, 16, 16, 16, 16, 16, 16, // 0x70
+    16, 16, 16, 16, 16, 16, 16, 16, 16, 16, 16, 16, 16, 16, 16, 16, // 0x80
+    16, 16, 16, 16, 16, 16, 16, 16, 16, 16, 16, 16, 16, 16, 16, 16, // 0x90
+    16, 16, 16, 16, 16, 16, 16, 16, 16, 16, 16, 16, 16, 16, 16, 16, // 0xA0
+    16, 16, 16, 16, 16, 16, 16, 16, 16, 16, 16, 16, 16, 16, 16, 16, // 0xB0
+    16, 16, 16, 16, 16, 16, 16, 16, 16, 16, 16, 16, 16, 16, 16, 16, // 0xC0
+    16, 16, 16, 16, 16, 16, 16, 16, 16, 16, 16, 16, 16, 16, 16, 16, // 0xD0
+    16, 16, 16, 16, 16, 16, 16, 16, 16, 16, 16, 16, 16, 16, 16, 16, // 0xE0
+    16, 16, 16, 16, 16, 16, 16, 16, 16, 16, 16, 16, 16, 16, 16, 16, // 0xF0
+];
+
 // Digits are read and written by hand, since a line goes into lent bytes and its theorems are about digits.
 
 // The byte of a digit below 16.
@@ -18,18 +42,23 @@ fn digit_byte(d: u8) -> u8
     requires { d < 16 }
     ensures { result ≡ digit d }
 {
-    if d < 10 { b'0' + d } else { b'A' + (d - 10) }
+    DIGITS[d as usize]
+}
+
+// The digit of a byte, or 16 if it is none.
+fn digit_or_16(b: u8) -> u8
+    ensures digit { result < 16 → b ≡ digit result }
+    ensures none { 16 ≤ result → (d : ℕ) → d < 16 → b ≢ digit d }
+{
+    VALUES[b as usize]
 }
 
 // The digit of a byte, if it is one.
 fn digit_value(b: u8) -> Option<u8>
     ensures { MatchOption result ((d : ℕ) → d < 16 → b ≢ digit d) (λ d. (d < 16) × (b ≡ digit d)) }
 {
-    match b {
-        b'0'..=b'9' => Some(b - b'0'),
-        b'A'..=b'F' => Some(b - b'A' + 10),
-        _ => None,
-    }
+    let d = digit_or_16(b);
+    (d < 16).then_some(d)
 }
 
 // The number that the digits spell, highest first.
