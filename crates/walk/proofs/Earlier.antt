@@ -1,16 +1,15 @@
 -- The earlier names of a declaration, as the code finds them among the frames.
-use Rattle.std.proofs.Common.{◌≡◌, ℕ, zero, suc, ◌+◌, ◌-◌, ◌<◌, ◌≤◌, Bool as Truth, true, false, cond, ◌||◌, eqb, List, [], ◌∷◌, ◌++◌, reverse, length, get_or, take, drop, is_some, Some, None, Ok, Err, Option, sym, refl, ap, ◌∙◌, ap₂, arith}
+use Rattle.std.proofs.Common.{◌≡◌, ℕ, zero, suc, ◌+◌, ◌-◌, ◌<◌, ◌≤◌, Bool as Truth, true, false, cond, ◌||◌, eqb, List, [], ◌∷◌, ◌++◌, reverse, length, get_or, take, drop, is_some, Some, None, Option, sym, refl, ap, ◌∙◌, ap₂, arith}
 use Rattle.std.proofs.lemmas.List.{reverse-append, take_more, get_or-drop, length-drop, map_push}
 use Rattle.syntax.specs.declared.frame.Frame.{Frame}
 use Rattle.syntax.specs.declared.stages.Unfinished.{Unfinished}
 use Rattle.levels.specs.Store.{stands}
 use Rattle.levels.specs.Search.{later, newest_of}
-use Rattle.rules.specs.declared.violation.Violation.TheVariants.{Repeated}
 use Rattle.rules.specs.Judge.{among}
 use Rattle.rules.specs.Walk.{alone}
 use Rattle.walk.specs.declared.machine.Declaration.{Declaration}
 use Rattle.walk.specs.Judge.{Numbers}
-use Rattle.walk.specs.Step.{kept, state, naming, awaiting, named}
+use Rattle.walk.specs.Step.{state, naming, awaiting}
 use Rattle.walk.specs.Places.{between}
 use Rattle.walk.specs.Machines.{names_of, unkept, awaited, pending_of, coming_at, Within}
 
@@ -70,18 +69,11 @@ module _ (t : ℕ) (f : Frame) (fs : List Frame) (first i : ℕ) (is : get_or fs
         go true = sym names_more
         go false = refl
 
-    awaiting_more : (os : List ℕ) (ls : List Numbers) (k : ℕ)
+    pub awaiting_more : (os : List ℕ) (ls : List Numbers) (k : ℕ)
         → awaiting os ls u t k (cond (alone u) (f.name ∷ unkept u (between first i fs)) (unkept u (between first i fs)))
         ≡ state os ls (awaited k u) (coming_at (i + 1) (awaited k u) (pending_of t k first) fs)
     awaiting_more os ls zero = refl
     awaiting_more os ls (suc k) = ap (λ q. state os ls u (naming t (suc k) q)) unkept_more
-
-    pub name_taken : (os : List ℕ) (ls : List Numbers) (left : ℕ) → false ≡ (stands ls f.name || among (unkept u (between first i fs)) f.name)
-        → named os ls u f.name (naming t left (unkept u (between first i fs)))
-        ≡ Ok (state os (kept u ls f.name t) (awaited (left - 1) u) (coming_at (i + 1) (awaited (left - 1) u) (pending_of t (left - 1) first) fs))
-    name_taken os ls left e =
-        ap (λ b. cond b (Err Repeated) (Ok (awaiting os (kept u ls f.name t) u t (left - 1) (cond (alone u) (f.name ∷ unkept u (between first i fs)) (unkept u (between first i fs)))))) (sym e)
-        ∙ ap Ok (awaiting_more os (kept u ls f.name t) (left - 1))
 
 -- equal parts make equal states
 pub states : (i : ℕ) (fs : List Frame) {os os' : List ℕ} {l l' : List Numbers} {u u' : List Unfinished} {p p' : Option Declaration} → os ≡ os' → l ≡ l' → u ≡ u' → p ≡ p'

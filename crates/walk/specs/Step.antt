@@ -1,5 +1,5 @@
 -- What one frame does to a walk, on the codes of types and on packed heads, and the walk over all frames.
-use Rattle.std.specs.Prelude.{ℕ, zero, suc, ◌-◌, Bool as Truth, cond, ◌||◌, List, [], ◌∷◌, length, drop, Ok, Err, Result, ◌==◌, nat_le, nat_lt, slice_index_or}
+use Rattle.std.specs.Prelude.{ℕ, zero, suc, ◌-◌, Bool as Truth, false, cond, ◌||◌, List, [], ◌∷◌, length, drop, Ok, Err, Result, ◌==◌, nat_le, nat_lt, slice_index_or}
 use Rattle.syntax.specs.declared.frame.Frame.{Frame}
 use Rattle.syntax.specs.declared.stages.Unfinished.{Unfinished}
 use Rattle.syntax.specs.declared.stages.Unfinished.TheVariants.{Block, Loop, Choice}
@@ -40,12 +40,19 @@ kept u ls x t = cond (alone u) ls (added ls (x, t))
 abbrev pub asked : Truth → Violation → State → Result State Violation
 asked b v s = cond b (Ok s) (Err v)
 
+-- a name of a declaration stands on the top level, or is among the earlier ones that stand on no level
+abbrev pub repeating : List Numbers → ℕ → Names → Truth
+repeating ls x idle = false
+repeating ls x (naming t left earlier) = stands ls x || among earlier x
+
+-- a name of a declaration taken
+abbrev pub taken : List ℕ → List Numbers → List Unfinished → ℕ → Names → State
+taken os ls u x idle = state os ls u idle
+taken os ls u x (naming t left earlier) = awaiting os (kept u ls x t) u t (left - 1) (cond (alone u) (x ∷ earlier) earlier)
+
 -- a name of a declaration
 abbrev pub named : List ℕ → List Numbers → List Unfinished → ℕ → Names → Result State Violation
-named os ls u x idle = Ok (state os ls u idle)
-named os ls u x (naming t left earlier) =
-    cond (stands ls x || among earlier x) (Err Repeated)
-    (Ok (awaiting os (kept u ls x t) u t (left - 1) (cond (alone u) (x ∷ earlier) earlier)))
+named os ls u x n = cond (repeating ls x n) (Err Repeated) (Ok (taken os ls u x n))
 
 -- a declared name that starts with the newest operand
 abbrev pub initial : List ℕ → List Numbers → List Unfinished → Frame → Result State Violation

@@ -1,17 +1,17 @@
 // What a walk does with a name that is declared.
-ghost use Rattle.std.specs.Prelude.{◌≡◌, ◌<◌, false, ◌||◌, length};
+ghost use Rattle.std.specs.Prelude.{◌≡◌, ◌<◌, false, ◌||◌, length, drop};
+ghost use Rattle.syntax.specs.Form.{finish};
 ghost use Rattle.levels.specs.Store.{stands, with_levels};
 ghost use Rattle.rules.specs.Judge.{among};
 ghost use Rattle.rules.specs.Walk.{alone};
-ghost use Rattle.walk.specs.Step.{kept, named, initial, state, idle};
-ghost use Rattle.walk.specs.Machines.{awaited, pending_of, coming_at, after, unkept, Does, Room, Awaits, Onward};
+ghost use Rattle.walk.specs.Step.{kept, repeating, taken};
+ghost use Rattle.walk.specs.Machines.{awaited, pending_of, coming_at, after, unkept, Room, Awaits, Onward};
 
 use super::{Declaration, Machine};
 use crate::place::Place;
 use crate::variables;
 use levels::search::{Named, newest};
 use levels::store::{Declaring, Looking};
-use rules::Violation;
 use syntax::Frame;
 
 impl Machine {
@@ -47,52 +47,46 @@ impl Machine {
         }
     }
 
+    // Whether the name that comes next of a declaration repeats one.
+    pub(crate) fn name_repeats<S: Looking<u8>>(&self, place: &Place<'_>, variables: &S) -> bool
+        requires awaits { Awaits place.now.i self.now.pending }
+        ensures { result ≡ repeating (S.Looking.meaning variables.now).levels place.now.frame.name (coming_at place.now.i self.now.things self.now.pending place.now.frames.now) }
+    {
+        let Some(declaration) = self.pending else {
+            unreachable();
+        };
+        self.repeated(place.frame.name, place.since(declaration.first), variables)
+    }
+
     // Takes one name more of a declaration.
-    pub(crate) fn name<S: Declaring<u8>>(
-        &mut self,
-        place: &Place<'_>,
-        variables: &mut S,
-    ) -> Result<(), Violation>
+    pub(crate) fn name<S: Declaring<u8>>(&mut self, place: &Place<'_>, variables: &mut S)
         requires awaits { Awaits place.now.i self.old.pending }
         requires room { Room (S.Looking.meaning variables.old) }
-        ensures does { Does (named self.old.operands (S.Looking.meaning variables.old).levels self.old.things place.now.frame.name (coming_at place.now.i self.old.things self.old.pending place.now.frames.now)) (S.Looking.meaning variables.old).levels (after place.now self.new (S.Looking.meaning variables.new)) result }
+        requires fresh { repeating (S.Looking.meaning variables.old).levels place.now.frame.name (coming_at place.now.i self.old.things self.old.pending place.now.frames.now) ≡ false }
+        ensures does { taken self.old.operands (S.Looking.meaning variables.old).levels self.old.things place.now.frame.name (coming_at place.now.i self.old.things self.old.pending place.now.frames.now) ≡ after place.now self.new (S.Looking.meaning variables.new) }
         ensures onward { Onward place.now (S.Looking.meaning variables.old) (S.Looking.meaning variables.new) self.new }
     {
         let Some(declaration) = self.pending else {
             unreachable();
         };
-        let name = place.frame.name;
-        if self.repeated(name, place.since(declaration.first), variables) {
-            return Err(Violation::Repeated);
-        }
-        self.keep(name, declaration.t, variables);
+        self.keep(place.frame.name, declaration.t, variables);
         self.await_names(Declaration {
             left: declaration.left - 1,
             ..declaration
         });
-        Ok(())
     }
 
     // Declares a name with its first value.
-    pub(crate) fn init<S: Declaring<u8>>(
-        &mut self,
-        frame: Frame,
-        variables: &mut S,
-    ) -> Result<(), Violation>
+    pub(crate) fn init<S: Declaring<u8>>(&mut self, frame: Frame, variables: &mut S)
         requires value { 0 < length self.old.operands }
         requires room { Room (S.Looking.meaning variables.old) }
-        ensures does { Does (initial self.old.operands (S.Looking.meaning variables.old).levels self.old.things frame) (S.Looking.meaning variables.old).levels (state self.new.operands (S.Looking.meaning variables.new).levels self.new.things idle) result }
+        requires fresh { stands (S.Looking.meaning variables.old).levels frame.name ≡ false }
+        ensures operands { self.new.operands ≡ drop 1 self.old.operands }
+        ensures things { self.new.things ≡ finish self.old.things }
         ensures pending { self.new.pending ≡ self.old.pending }
-        ensures capacity { (S.Looking.meaning variables.new).capacity ≡ (S.Looking.meaning variables.old).capacity }
+        ensures variables { S.Looking.meaning variables.new ≡ with_levels (S.Looking.meaning variables.old) (kept self.old.things (S.Looking.meaning variables.old).levels frame.name frame.t) }
     {
-        if frame.t != self.operands.at(0) {
-            return Err(Violation::OtherInitial);
-        }
-        if variables.here(frame.name) {
-            return Err(Violation::Repeated);
-        }
         self.keep(frame.name, frame.t, variables);
         self.finish_with_operand();
-        Ok(())
     }
 }

@@ -67,8 +67,11 @@ impl Machine {
             0x03..=0x0F => {}
             0x10 => self.finish_with_operand(),
             0x11 => self.await_names(Declaration::announced(place)),
-            0x12 => return self.name(place, variables),
-            0x13 => return self.init(frame, variables),
+            0x12 if self.name_repeats(place, variables) => return Err(Violation::Repeated),
+            0x12 => self.name(place, variables),
+            0x13 if frame.t != self.operands.at(0) => return Err(Violation::OtherInitial),
+            0x13 if variables.here(frame.name) => return Err(Violation::Repeated),
+            0x13 => self.init(frame, variables),
             0x14 if place.returns() == VOID => self.things.finish(),
             0x15 if place.returns() == self.operands.at(0) => self.finish_with_operand(),
             0x14 | 0x15 => return Err(Violation::OtherReturn),
