@@ -2,8 +2,8 @@
 
 #![tactic(auto)]
 
-use driver::report_from;
 use cases::count_agreeing;
+use driver::report_from;
 use std::fs::File;
 use std::io::Read;
 use std::{fs, io};
