@@ -48,14 +48,13 @@ fn judged(frames: &[Frame]) -> Result<(), Fault>
     m.ended()
 }
 
-// The frames, and blank ones after them.
-fn padded(frames: &[Frame]) -> [Frame; 256]
+// Writes the frames to the front of the area, and blank ones after them.
+fn write_padded(frames: &[Frame], area: &mut [Frame; 256])
     requires { length frames.now ≤ 256 }
-    ensures { result ≡ frames.now ++ replicate (256 - length frames.now) blank }
+    ensures { area.new ≡ frames.now ++ replicate (256 - length frames.now) blank }
 {
-    let mut sheet = [Frame::BLANK; 256];
-    sheet[..frames.len()].copy_from_slice(frames);
-    sheet
+    area[..frames.len()].copy_from_slice(frames);
+    area[frames.len()..].fill(Frame::BLANK);
 }
 
 // Fills the sheet with frames that were accepted.
@@ -63,10 +62,8 @@ fn fill(frames: &[Frame], into: &mut Formed)
     requires { forms frames.now ≡ accepted }
     ensures { Filled frames.now into.new }
 {
-    *into = Formed {
-        frames: padded(frames),
-        count: frames.len(),
-    };
+    write_padded(frames, &mut into.frames);
+    into.count = frames.len();
 }
 
 // Fills the sheet with the frames if they have the form of one; a refusal leaves it as it was.

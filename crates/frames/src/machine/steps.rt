@@ -57,31 +57,31 @@ impl Machine {
     fn allow_role(&mut self, role: Role, load: u32) -> Result<(Stage, usize), Fault>
         ensures { Allows (allow self.old.place role load self.old.stage self.old.things self.old.ready) self.old self.new result }
     {
-        match (self.stage, role, self.ready) {
-            (Stage::Start, Role::Head, k) => Ok((await_params(load), k)),
-            (Stage::Params(n), Role::Param, k) => Ok((await_params(n.saturating_sub(1)), k)),
-            (Stage::Names(n), Role::Name, k) => {
+        match (role, self.stage, self.ready) {
+            (Role::Head, Stage::Start, k) => Ok((await_params(load), k)),
+            (Role::Param, Stage::Params(n), k) => Ok((await_params(n.saturating_sub(1)), k)),
+            (Role::Name, Stage::Names(n), k) => {
                 Ok((await_names(n.saturating_sub(1), &mut self.things), k))
             }
-            (Stage::Body, Role::Operand(n), k) if k >= n as usize => {
+            (Role::Operand(n), Stage::Body, k) if k >= n as usize => {
                 Ok((Stage::Body, k - n as usize + 1))
             }
-            (Stage::Body, Role::Call, k) if k >= load as usize => {
+            (Role::Call, Stage::Body, k) if k >= load as usize => {
                 Ok((Stage::Body, k - load as usize + 1))
             }
-            (Stage::Body, Role::Statement(n), k) if k == n as usize => {
+            (Role::Statement(n), Stage::Body, k) if k == n as usize => {
                 self.things.finish();
                 Ok((Stage::Body, 0))
             }
-            (Stage::Body, Role::Decl, 0) => Ok((await_names(load, &mut self.things), 0)),
-            (Stage::Body, Role::While, 1) => self.begin(Unfinished::Loop),
-            (Stage::Body, Role::If, 1) => self.begin(Unfinished::Choice(2)),
-            (Stage::Body, Role::Open, 0) => self.begin(Unfinished::Block),
-            (Stage::Body, Role::Close, 0) if self.things.innermost() == Some(Unfinished::Block) => {
+            (Role::Decl, Stage::Body, 0) => Ok((await_names(load, &mut self.things), 0)),
+            (Role::While, Stage::Body, 1) => self.begin(Unfinished::Loop),
+            (Role::If, Stage::Body, 1) => self.begin(Unfinished::Choice(2)),
+            (Role::Open, Stage::Body, 0) => self.begin(Unfinished::Block),
+            (Role::Close, Stage::Body, 0) if self.things.innermost() == Some(Unfinished::Block) => {
                 self.things.close();
                 Ok((Stage::Body, 0))
             }
-            (Stage::Body, Role::End, 0) if self.things.is_empty() => Ok((Stage::Ended, 0)),
+            (Role::End, Stage::Body, 0) if self.things.is_empty() => Ok((Stage::Ended, 0)),
             _ => Err(Fault::NotAllowed(self.place)),
         }
     }
