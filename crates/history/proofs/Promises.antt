@@ -1,9 +1,9 @@
 -- A call that does as it should keeps its promise over every history.
-use Rattle.std.proofs.Common.{◌≡◌, ℕ, Bool, true, false, cond, not, ◌||◌, ltb, List, ◌∷◌, Ok, Err, Result, sym, refl, ap, ◌∙◌, subst, ap₂, inl, inr}
+use Rattle.std.proofs.Common.{◌≡◌, ℕ, Bool, true, false, cond, not, ◌||◌, ltb, List, ◌∷◌, Some, None, Ok, Err, Option, Result, sym, refl, ap, ◌∙◌, subst, ap₂, inl, inr}
 use Rattle.std.proofs.lemmas.Bool.{cases_Bool}
 use Rattle.history.specs.Words.{filled}
 use Rattle.history.specs.Language.{Fault, Signatures, Language}
-use Rattle.history.specs.Calls.{refusal, sized, Call, Call.post, Call.put, Call.clear, Call.check, Act, Act.emptied, Act.walked, guard, unless_repeated, elsewhere, putting, formed, posting, outcome, Answer}
+use Rattle.history.specs.Calls.{refusal, sized, reader_refusal, Call, Call.post, Call.put, Call.clear, Call.check, Act, Act.emptied, Act.walked, guard, unless_repeated, elsewhere, putting, formed, posting, outcome, Answer}
 use Rattle.history.specs.Working.{State, working_signatures, working_reading, working_stepped, working_told, asked}
 use Rattle.history.specs.Runs.{Does}
 use Rattle.history.specs.Known.{Known}
@@ -80,9 +80,22 @@ module _ {Frame Def Text : Type 0} (L : Language Frame Def Text) (K : Known L) w
         readable = (lawful L K (c ∷ h) (left_by L c book' f k) on).readable;
       }
 
+  -- one of two refusals is none
+  refused_anyway : (b : Bool) (f g : Fault) → cond b (Some f) (Some g) ≡ None → ⊥
+  refused_anyway true f g e = cc
+  refused_anyway false f g e = cc
+
+  -- a reader is made of a valid book alone
+  opened : (v : Bool) (fl cl : ℕ) → reader_refusal v fl cl ≡ None → v ≡ true
+  unfolding reader_refusal
+  opened true fl cl e = refl
+  opened false fl cl e = absurd (refused_anyway (sized fl cl) (refusal 36 255) (refusal 32 255) e)
+
   -- making a reader keeps its promise
   pub reader_promise : (book : State Frame) (fl cl : ℕ) → ReaderPromise L book fl cl (working_reading book fl cl)
-  reader_promise book fl cl h f k stands = (readable L K h (with_areas book f k) stands).opens fl cl
+  reader_promise book fl cl h f k stands =
+      let w = readable L K h (with_areas book f k) stands in
+      record { told = w.opens fl cl; only_lengths = λ v. w.only_lengths v fl cl; only_valid = λ e. w.valid_words.0 (sym stands.flag ∙ opened book.valid fl cl e) }
 
   -- and so does a question
   pub question_promise : (book : State Frame) (s k : ℕ) → QuestionPromise L book s k (asked L book s k)

@@ -1,9 +1,9 @@
 -- What each call promises of a book that stands as a history of calls says.
-use Rattle.std.specs.Prelude.{◌≡◌, ℕ, Bool, true, cond, List, ◌∷◌, Option, Result}
+use Rattle.std.specs.Prelude.{◌≡◌, ℕ, Bool, true, cond, List, ◌∷◌, None, Option, Result}
 use Rattle.history.specs.Language.{Fault, Language}
 use Rattle.history.specs.Calls.{sized, Call, Call.post, Call.put, Call.clear, Call.check, History, Answer}
 use Rattle.history.specs.Plain.{plain, answer, reading}
-use Rattle.history.specs.Due.{CheckAccepted}
+use Rattle.history.specs.Due.{CheckAccepted, CheckedValid}
 use Rattle.history.specs.Working.{State}
 use Rattle.history.specs.Stands.{Stands}
 use Rattle.history.specs.Readable.{Typed, Readable}
@@ -45,10 +45,19 @@ module _ {Frame Def Text : Type 0} (L : Language Frame Def Text) where
   Promise book c r book' =
       (h : History L) (f : List Frame) (k : List ℕ) → Stands L (plain L h) (with_areas book f k) → Handed c book f k → Keeps h c r (left_by c book' f k)
 
+  -- a type reader was asked for after the history h, over areas of these lengths: r is the refusal, if there is one
+  pub record Opens (h : History L) (fl cl : ℕ) (r : Option Fault) : Type 0 where
+    -- 32, then 36 where the book is not valid
+    pub told : r ≡ reading L (plain L h) fl cl
+    -- so on a valid book 32 alone refuses it
+    pub only_lengths : CheckedValid L h → sized fl cl ≡ true → r ≡ None
+    -- and there is one of a valid book alone
+    pub only_valid : r ≡ None → CheckedValid L h
+
   -- the promise of making a type reader over areas of these lengths
   abbrev pub ReaderPromise : State Frame → ℕ → ℕ → Option Fault → Type 0
   ReaderPromise book fl cl r =
-      (h : History L) (f : List Frame) (k : List ℕ) → Stands L (plain L h) (with_areas book f k) → r ≡ reading L (plain L h) fl cl
+      (h : History L) (f : List Frame) (k : List ℕ) → Stands L (plain L h) (with_areas book f k) → Opens h fl cl r
 
   -- the promise of a question for the type at a place of a sheet
   abbrev pub QuestionPromise : State Frame → ℕ → ℕ → Result (Option ℕ) Fault → Type 0
