@@ -74,9 +74,14 @@ impl TestBook {
         if let Err(fault) = form(frames, &mut formed) {
             return numbers(Fault::Posted(fault, sheet));
         }
+        self.put_formed(sheet, &formed)
+    }
+
+    // Puts a formed sheet.
+    pub fn put_formed(&mut self, sheet: u8, formed: &Formed) -> [usize; 4] {
         told(
             self.book
-                .put(sheet, &formed, &mut self.frames, &mut self.column),
+                .put(sheet, formed, &mut self.frames, &mut self.column),
         )
     }
 

@@ -76,6 +76,21 @@ fn replaced_by_another(rt: HostRuntime) -> Result<(), Fail> {
     Ok(())
 }
 
+// A formed sheet can be put as it is at first, a function named 0; and 0 is a name like any other.
+#[test]
+fn the_first_formed_sheet(rt: HostRuntime) -> Result<(), Fail> {
+    let mut book = TestBook::new(rt.alloc())?;
+    assert_eq!(rt; book.put_formed(31, &Formed::new()), DONE);
+    assert_eq!(rt; book.put(4, &nothing(0)), [33, 3, 4, 0]);
+    assert_eq!(rt; book.put(4, &own_caller(1)), DONE);
+    assert_eq!(rt; book.check(), [2, 0, 0, 0, 0]);
+    assert_eq!(rt; book.put(4, &own_caller(0)), [33, 3, 4, 0]);
+    assert_eq!(rt; book.put(31, &own_caller(0)), DONE);
+    assert_eq!(rt; book.check(), [1, 0, 0, 0, 0]);
+    assert_eq!(rt; book.type_at(31, 1), 5);
+    Ok(())
+}
+
 // A caller before its callee.
 #[test]
 fn the_caller_first(rt: HostRuntime) -> Result<(), Fail> {
