@@ -17,7 +17,7 @@ use syntax::{Frame, Type};
 fn is_expression(frame: Frame) -> bool
     ensures { result ≡ expression frame }
 {
-    matches!(frame.kind, 0x20..=0x2A | 0x30..=0x3C)
+    (0x20..=0x2A).contains(&frame.kind) || (0x30..=0x3C).contains(&frame.kind)
 }
 
 impl Reader<'_> {

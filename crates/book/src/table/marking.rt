@@ -32,8 +32,8 @@ fn stays(old: Option<Signature>, new: Option<Signature>) -> bool
 
 // Whether the frame calls a name to which the new signature gives another head than the old, or none, or its first. (Old and new stay two
 // parameters: they are only compared, and a pair of them would name each once more.)
-fn calls_another(frame: Frame, old: Option<Signature>, new: Option<Signature>) -> bool
-    ensures { result ≡ (frame.kind == CALL && differ (head_for frame.name (signed old)) (head_for frame.name (signed new))) }
+fn calls_another(frame: &Frame, old: Option<Signature>, new: Option<Signature>) -> bool
+    ensures { result ≡ (frame.now.kind == CALL && differ (head_for frame.now.name (signed old)) (head_for frame.now.name (signed new))) }
 {
     frame.kind == CALL && head_for(frame.name, old) != head_for(frame.name, new)
 }
@@ -42,7 +42,7 @@ fn calls_another(frame: Frame, old: Option<Signature>, new: Option<Signature>) -
 fn calls_changed(frames: &[Frame], old: Option<Signature>, new: Option<Signature>) -> bool
     ensures { result ≡ calls_changed (signed old) (signed new) frames.now }
 {
-    frames.iter().any(|f| calls_another(*f, old, new))
+    frames.iter().any(|f| calls_another(f, old, new))
 }
 
 impl Table {
