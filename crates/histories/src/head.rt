@@ -1,4 +1,6 @@
 // What functions take and return, as a reader of the rules would note it: the codes of the types, one by one.
+ghost use Rattle.std.specs.Prelude.{◌≤◌, length};
+
 use crate::random::Random;
 
 // A head has at most so many parameters.
@@ -26,7 +28,9 @@ impl Head {
     }
 
     // The types of the parameters.
-    pub fn params(&self) -> &[u8] {
+    pub fn params(&self) -> &[u8]
+        ensures { length result.now ≤ 16 }
+    {
         self.params.get(..self.count).unwrap_or(&[])
     }
 

@@ -1,6 +1,6 @@
 // The verdict on one sheet as it now stands, by a book of its own: the sheet, and for every other filled sheet one that does nothing and has
 // its head.
-use crate::draft::stub;
+use crate::draft::sheets::stub;
 use crate::lent::{Lengths, Lent};
 use crate::plain::{DONE, Entry, Plain, SHEETS, front};
 use crate::stores::unused;

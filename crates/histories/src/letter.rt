@@ -1,5 +1,6 @@
 // Texts to post, good or damaged in one known way.
-use crate::draft::{Frames, frame, nested};
+use crate::draft::sheets::nested;
+use crate::draft::{Frames, frame};
 use crate::random::Random;
 use codec::write;
 use syntax::Frame;

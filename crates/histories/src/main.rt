@@ -4,7 +4,6 @@
 
 #![tactic(auto)]
 
-mod checking;
 mod counts;
 mod draft;
 mod head;

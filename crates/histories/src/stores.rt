@@ -1,4 +1,6 @@
 // Two stores of names side by side: the same calls on both, and whether they answer and look alike.
+ghost use Rattle.std.specs.Prelude.{◌≡◌, take};
+
 use crate::counts::Counts;
 use crate::random::Random;
 use levels::entry::Entry;
@@ -30,7 +32,9 @@ pub fn soil<V>(entries: &mut [Entry<V>], random: &mut Random) {
 }
 
 // The first so many of the items, or all.
-pub fn first<T>(items: &mut [T], count: usize) -> &mut [T] {
+pub fn first<T>(items: &mut [T], count: usize) -> &mut [T]
+    ensures { result.now ≡ take count items.old }
+{
     let end = count.min(items.len());
     &mut items[..end]
 }

@@ -1,10 +1,10 @@
 // The checks of a history, over stores of both kinds, and what they are compared with.
+use super::Trial;
 use crate::counts::{Counts, more};
 use crate::judge::judged;
 use crate::lent::Lengths;
 use crate::plain::{DONE, SHEETS, part};
 use crate::stores::{alike, first, picture, soil, stir, unused};
-use crate::trial::Trial;
 use levels::chains::Chains;
 use levels::pile::Pile;
 use levels::store::{Declaring, Looking};
