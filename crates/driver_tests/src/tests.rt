@@ -80,6 +80,47 @@ fn interrupted_reading_goes_on(rt: HostRuntime) -> Result<(), Fail> {
     Ok(())
 }
 
+// Is interrupted at every read.
+#[derive(Drop)]
+struct Interrupted;
+
+impl Read for Interrupted {
+    fn read(&mut self, _buf: &mut [u8]) -> io::Result<usize> {
+        Err(io::Error::from(ErrorKind::Interrupted))
+    }
+}
+
+// Reading that is interrupted for ever ends.
+#[test]
+fn endless_interruption_ends(rt: HostRuntime) {
+    let said = read_input(rt.alloc(), Interrupted);
+    assert!(rt; said.is_err_and(|e| e.kind() == ErrorKind::TimedOut));
+}
+
+// Gives its bytes to the first read, and drops those that it did not ask for, as a socket that keeps packets does.
+#[derive(Drop)]
+struct Packet<'a> {
+    bytes: &'a [u8],
+}
+
+impl Read for Packet<'_> {
+    fn read(&mut self, buf: &mut [u8]) -> io::Result<usize> {
+        let count = self.bytes.len().min(buf.len());
+        buf[..count].copy_from_slice(&self.bytes[..count]);
+        self.bytes = &[];
+        Ok(count)
+    }
+}
+
+// The first read asks for all that an input may have.
+#[test]
+fn a_packet_is_read_whole(rt: HostRuntime) -> Result<(), Fail> {
+    let bytes = vec![in rt.alloc(); 48u8; LONGEST]?;
+    let read = read_input(rt.alloc(), Packet { bytes: &bytes })?;
+    assert_eq!(rt; read.len(), LONGEST);
+    Ok(())
+}
+
 // Where reading fails after the first line, nothing is reported of that line.
 #[test]
 fn failed_reading_is_not_reported(rt: HostRuntime) {
