@@ -7,7 +7,7 @@ use Rattle.levels.specs.declared.refusal.Refusal.{Refusal}
 use Rattle.levels.specs.declared.refusal.Refusal.TheVariants.{TooDeep, Repeated, Full}
 use Rattle.levels.specs.Refusals.{too_deep, no_place, unless, answer}
 use Rattle.levels.specs.Store.{Store, enter_refused, declare_refused, entered, with_levels, looked, stands, find, table}
-use Rattle.levels.specs.Search.{newest_of, newest_labelled}
+use Rattle.levels.specs.Search.{newest_of}
 use Rattle.levels.specs.Entries.{pair, names, value_at}
 use Rattle.levels.specs.Starts.{ordered}
 use Rattle.levels.specs.Layout.{Layout, no_levels, opened, closed, without_top, top_of, on_top, cut, store_of}
@@ -15,7 +15,7 @@ use Rattle.levels.proofs.Refusing.{unless_through}
 use Rattle.levels.proofs.Tabling.{looked_tables, stands_tables, standing_tables}
 use Rattle.levels.proofs.Starting.{ordered_top}
 use Rattle.levels.proofs.Reading.{value_nth_take}
-use Rattle.levels.proofs.Searching.{newest_low, newest_named}
+use Rattle.levels.proofs.Searching.{newest_low}
 use Rattle.levels.proofs.Finding.{find_newest}
 use Rattle.levels.proofs.Cutting.{length_cut, cut_opened, standing_cut, looked_cut, stands_cut}
 
@@ -79,8 +79,8 @@ module _ {V : Type 0} (y : Layout) (es : List (Entry V)) (ok : ordered y.starts 
       by_starts (s ∷ ss) b n = ap (λ t. cond b (Some Repeated) (cond t None (Some Full))) (room_by n (length es))
 
 -- a search of the entries that stand is one of their names
-pub place_by : {V : Type 0} (es : List (Entry V)) (n c k : ℕ) (r : Option ℕ) → c ≡ n → r ≡ newest_labelled (map (λ e. Some e.name) (take c es)) k → r ≡ newest_of (names (take n es)) k
-place_by es n c k r h e = e ∙ newest_named (λ e. e.name) (take c es) k ∙ ap (λ n. newest_of (names (take n es)) k) h
+pub place_by : {V : Type 0} (es : List (Entry V)) (n c k : ℕ) (r : Option ℕ) → c ≡ n → r ≡ newest_of (map (λ e. e.name) (take c es)) k → r ≡ newest_of (names (take n es)) k
+place_by es n c k r h e = e ∙ ap (λ n. newest_of (names (take n es)) k) h
 
 -- what the calls of a store learn from the calls on its table and its search
 module _ {V : Type 0} (ss : List ℕ) (n : ℕ) (es : List (Entry V)) (k : ℕ) (p : Option ℕ) (at : p ≡ newest_of (names (take n es)) k) where

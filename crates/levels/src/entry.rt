@@ -1,6 +1,4 @@
 // One name with its value, in memory that a store is lent.
-ghost use Rattle.std.specs.Prelude.{Some};
-
 use crate::search::Named;
 
 // What stands in one place of that memory. A host that lends it may leave anything in it.
@@ -13,9 +11,9 @@ pub struct Entry<V> {
 }
 
 impl<V> Named for Entry<V> {
-    ghost label = { λ e. Some e.name };
+    ghost label = { λ e. e.name };
 
-    fn name(&self) -> Option<u16> {
-        Some(self.name)
+    fn name(&self) -> u16 {
+        self.name
     }
 }

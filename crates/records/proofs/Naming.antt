@@ -1,7 +1,7 @@
 -- The search for a name on another sheet.
 use Rattle.std.proofs.Common.{◌≡◌, ℕ, ◌<◌, Bool, true, false, cond, not, eqb, List, map, length, get_or, Some, None, Option, sym, refl, ap, ◌∙◌, inl, inr, arith}
 use lib.ListN.{get_or-map}
-use Rattle.std.specs.Option.{MatchOption, option_and_then}
+use Rattle.std.specs.Option.{MatchOption, option_map}
 use Rattle.std.proofs.lemmas.Bool.{eq-eqb, ne_eqb, cases_eq, cases_Bool, false≢true}
 use Rattle.std.proofs.lemmas.List.{length-map}
 use Rattle.levels.specs.Search.{Newest}
@@ -38,7 +38,7 @@ module _ (g : Signatures) (s n : ℕ) where
 
 -- the name of a sheet, if it is filled
 abbrev pub label : Option Record → Option ℕ
-label o = option_and_then (λ (r : Record). Some r.signature.name) o
+label o = option_map (λ (r : Record). r.signature.name) o
 
 -- a sheet of the name has a head for it
 labelled_head : (o : Option Record) (n : ℕ) → label o ≡ Some n → (h : ℕ) × (head_for n (signed_by o) ≡ Some h)

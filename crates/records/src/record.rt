@@ -1,5 +1,5 @@
 // The record of a sheet.
-ghost use Rattle.std.specs.Prelude.{◌≡◌, Some};
+ghost use Rattle.std.specs.Prelude.{◌≡◌};
 ghost use Rattle.history.specs.Words.{map_some};
 ghost use Rattle.history.specs.Language.{fault_on};
 ghost use Rattle.records.specs.Faults.{told};
@@ -33,9 +33,9 @@ impl Record {
 }
 
 impl Named for Record {
-    ghost label = { λ r. Some r.signature.name };
+    ghost label = { λ r. r.signature.name };
 
-    fn name(&self) -> Option<u16> {
-        Some(self.signature.name)
+    fn name(&self) -> u16 {
+        self.signature.name
     }
 }

@@ -6,13 +6,13 @@ ghost use Rattle.records.specs.Records.{signatures_of};
 
 use super::Table;
 use crate::sheet::Sheet;
-use levels::search::newest;
+use levels::search::newest_filled;
 
 impl Table {
     // Whether another sheet than this one has the name.
     pub(crate) fn named_elsewhere(&self, sheet: Sheet, name: u16) -> bool
         ensures { result ≡ elsewhere cpp (signatures_of self.now.records) sheet.number name }
     {
-        newest(&self.records, name).is_some_and(|t| t != sheet.index())
+        newest_filled(&self.records, name).is_some_and(|t| t != sheet.index())
     }
 }

@@ -6,4 +6,4 @@ use Rattle.book.proofs.table.Table.named_elsewhere.Goals as goal
 pub returns : goal.returns
 returns c =
     let table = c.args.self.now in
-    named_told table.records c.args.name table.full table.apart c.args.sheet.number c.newest.result c.is_some_and.result c.newest.ensures.law (search rules)
+    named_told table.records c.args.name table.full table.apart c.args.sheet.number c.newest_filled.result c.is_some_and.result c.newest_filled.ensures.law (search rules)
