@@ -1,5 +1,5 @@
 -- The count of the calls that answered true, call by call.
-use Rattle.std.proofs.Common.{◌≡◌, ℕ, suc, ◌+◌, ◌<◌, Bool, true, false, cond, List, length, get_or, drop, Ok, Err, Result, sym, refl, subst, ap, inl, inr, add-one, arith}
+use Rattle.std.proofs.Common.{◌≡◌, ℕ, suc, ◌+◌, ◌<◌, Bool, true, false, cond, List, length, get_or, drop, Ok, Err, Result, IfErr, sym, refl, subst, ap, inl, inr, add-one, arith}
 use Rattle.std.proofs.Math.Seq.{drop-cons}
 use Rattle.std.proofs.lemmas.List.{drop_all}
 use Rattle.cases.specs.Agreed.{Agreed, Stopped}
@@ -50,3 +50,7 @@ module _ {F X E : Type 0} (step : F → X → Result Bool E → F → Type 0) (f
   stopped_after t s h =
       let others : drop (i + 1) xs ≡ drop (suc i) xs = ap (λ j. drop j xs) (add-one i) in
       held (subst (λ ys. Stopped step f ys e) (sym (drop-cons xs i d in')) (f', inr (inr (t, s, subst (λ ys. Stopped step f' ys e) others h))))
+
+-- an error that is handed on is that of the result
+pub handed_on : {A F X E : Type 0} (step : F → X → Result Bool E → F → Type 0) (first : F) (xs : List X) (r : Result A E) (e : E) → r ≡ Err e → Stopped step first xs e → IfErr r (λ e. Stopped step first xs e)
+handed_on step first xs r e is s = subst (λ r. IfErr r (λ e. Stopped step first xs e)) (sym is) s

@@ -2,7 +2,9 @@
 
 #![tactic(auto)]
 
-use cases::count_agreeing;
+ghost use Rattle.std.specs.Prelude.{⊤};
+
+use cases::{Tried, count_agreeing};
 use driver::report_from;
 use std::fs::File;
 use std::io::Read;
@@ -21,20 +23,33 @@ impl<R: Read> Read for Slowly<R> {
     }
 }
 
-// Compares the report on each case, read at once and byte by byte.
-fn main(rt: HostRuntime) -> io::Result<()> {
-    let heap = rt.alloc();
-    let names = fs::read_to_string(&rt, "cases")?;
-    let cases: Vec<&str> = names.as_str().lines().collect(heap)?;
-    let agreed = count_agreeing(&rt, &cases, |case| {
+// The report on each case, read at once and byte by byte.
+#[derive(Drop)]
+struct Reports<'a> {
+    rt: &'a HostRuntime,
+}
+
+impl Tried for Reports<'_> {
+    // no contract says what a file holds
+    ghost tries = { λ _ _ _ _. ⊤ };
+
+    fn agrees(&mut self, case: &str) -> io::Result<bool> {
+        let heap = self.rt.alloc();
         let input = format!(in heap; "{case}.in")?;
-        let wanted = fs::read(&rt, format!(in heap; "{case}.out")?.as_str())?;
-        let said = report_from(heap, &mut File::open(&rt, input.as_str())?)?;
+        let wanted = fs::read(self.rt, format!(in heap; "{case}.out")?.as_str())?;
+        let said = report_from(heap, &mut File::open(self.rt, input.as_str())?)?;
         let mut slowly = Slowly {
-            inner: File::open(&rt, input.as_str())?,
+            inner: File::open(self.rt, input.as_str())?,
         };
         let said_slowly = report_from(heap, &mut slowly)?;
         Ok(said.as_bytes() == wanted.as_slice() && said_slowly.as_bytes() == wanted.as_slice())
-    })?;
+    }
+}
+
+// Compares the report on each case with the one it should give.
+fn main(rt: HostRuntime) -> io::Result<()> {
+    let names = fs::read_to_string(&rt, "cases")?;
+    let cases: Vec<&str> = names.as_str().lines().collect(rt.alloc())?;
+    let agreed = count_agreeing(&rt, &cases, &mut Reports { rt: &rt })?;
     println!(rt; "{agreed} cases agree")
 }
