@@ -1,5 +1,5 @@
 // The examination of one sheet.
-ghost use Rattle.std.specs.Prelude.{◌≡◌, length, is_some, IfSome};
+ghost use Rattle.std.specs.Prelude.{◌≡◌, length, IsTrue};
 ghost use Rattle.frames.specs.Sheets.{frames_of};
 ghost use Rattle.walk.specs.Outcomes.{outcome};
 ghost use Rattle.walk.specs.Examined.{recorded, examined, Leaves, Decides};
@@ -18,18 +18,17 @@ const PLACES: usize = 256;
 // So many variables may stand at once.
 const ROOM: usize = 256;
 
-// The sheet that the frames form, if it has this signature, and no parameter twice.
+// Whether the frames form a sheet with this signature, and no parameter twice; then the formed sheet is filled with them. (It is lent, and
+// not handed out: as a value it would be copied, which costs more than the walk of a short sheet.)
 #[tactic(auto, using(crate::proofs::RepeatPlaces::twice_found))]
-fn as_recorded(frames: &[Frame], signature: Signature) -> Option<Formed>
-    ensures test { is_some result ≡ recorded frames.now signature.name signature.head }
-    ensures sheet { IfSome result (λ s. frames_of s ≡ frames.now) }
+fn as_recorded(frames: &[Frame], signature: Signature, sheet: &mut Formed) -> bool
+    ensures test { result ≡ recorded frames.now signature.name signature.head }
+    ensures sheet { IsTrue result → frames_of sheet.new ≡ frames.now }
 {
-    let mut sheet = Formed::new();
-    form(frames, &mut sheet).ok()?;
-    if sheet.name() != signature.name || head_of(&sheet) != signature.head {
-        return None;
-    }
-    repeated_parameter(&sheet).is_none().then_some(sheet)
+    form(frames, sheet).is_ok()
+        && sheet.name() == signature.name
+        && head_of(sheet) == signature.head
+        && repeated_parameter(sheet).is_none()
 }
 
 // Walks a sheet that its record gives this signature: its types into the column, or the first violation, or that the frames were altered.
@@ -51,8 +50,9 @@ pub fn examine<H: Looking<u64>, S: Declaring<u8>>(
         return Err(Refusal::SmallStore);
     }
     column.fill(0);
-    let Some(sheet) = as_recorded(frames, signature) else {
+    let mut sheet = Formed::new();
+    if !as_recorded(frames, signature, &mut sheet) {
         return Ok(Verdict::Altered);
-    };
+    }
     Ok(run(&sheet, column, heads, variables))
 }

@@ -1,4 +1,4 @@
-use Rattle.std.proofs.Common.{◌≡◌, ◌≤◌, true, length, Ok, sym, refl, ap, ◌∙◌, arith}
+use Rattle.std.proofs.Common.{◌≡◌, ◌≤◌, true, length, Ok, rules, sym, refl, ap, ◌∙◌, arith}
 use Rattle.levels.specs.Store.{with_levels}
 use Rattle.walk.specs.Outcomes.{outcome, verdict_of, column_of, levels_of}
 use Rattle.walk.specs.Examined.{recorded}
@@ -15,8 +15,8 @@ returns g c =
     let b = recorded fs c.args.signature.name c.args.signature.head in
     let n : length col ≡ 256 = c.if-column-ne-PLACES.false in
     let l : 256 ≤ store.capacity = omega (arith, c.capacity.ensures.result, c.if-capacity-lt-ROOM.false) in
-    let t : b ≡ true = sym c.in-Some.ensures.test in
-    let same = ap (outcome hs) c.in-Some.ensures.sheet in
+    let t : b ≡ true = sym c.if-not-as_recorded.ensures.test in
+    let same = ap (outcome hs) (c.if-not-as_recorded.ensures.sheet (search rules)) in
     let verdict = c.run.ensures.result ∙ ap verdict_of same in
     let column = c.run.ensures.column ∙ ap column_of same in
     let levels = c.run.ensures.levels ∙ ap (λ o. with_levels store (levels_of o)) same in
